@@ -1,0 +1,6 @@
+pub mod Bytes
+pub mod Maps
+pub mod Reading
+pub mod Writing
+pub mod Rows
+pub mod Laws
