@@ -26,7 +26,7 @@ use Rattle.wire.specs.Laws.{Lawful, FaultWithin, isFieldFault, Puts}
 use Rattle.std.specs.declared.option.Option.{Option}
 use Rattle.std.specs.declared.option.Option.the-variants.{Some, None}
 use Rattle.std.specs.Options.{isSome}
-use Rattle.wire.specs.Rows.{optionalAt, optionalBytes, optionalHeld}
+use Rattle.wire.specs.Rows.{optionalAt, optionalBytes, optionalHeld, OptionalUndone}
 use Rattle.wire.specs.Reading.{Read, andThen, numberAt, ranged, rangedAt, isPrice, priceAt, isQuantity, quantityAt, isCount, countAt, isMap, mapAt, byteAt, longAt, pairAt, faultAt, placeOf}
 use Rattle.wire.proofs.Numbers.{number-stands, number-bytesOf, bytesOf-number, length-bytesOf, bigEndian-lt}
 use Rattle.wire.proofs.Steps.{ok-not-err, ok-same, err-same, then-read, then-failed, then-is, drop-on}
@@ -251,3 +251,6 @@ module _ {A : Type 0} {p : List ℕ → ℕ → Read A} {f : A → List ℕ} {a 
   pub optional-short : (v : Option A) → optionalHeld a v ≡ true → length (optionalBytes f v) ≤ n
   optional-short None held = omega arith
   optional-short (Some v) held = P .short v held
+
+  pub optional-undone : (present : Bool) → OptionalUndone present p f a
+  optional-undone present = record { restores = optional-restores present; exact = optional-exact present }

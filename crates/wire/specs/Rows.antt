@@ -8,9 +8,10 @@ use lib.ListN.{length, take, drop, replicate}
 use Rattle.std.specs.declared.option.Option.{Option}
 use Rattle.std.specs.declared.option.Option.the-variants.{Some, None}
 use Rattle.std.specs.declared.result.Result.the-variants.{Ok, Err}
+use Rattle.std.specs.Options.{isSome}
 use Rattle.std.specs.shelf.Lists.{joined}
 use Rattle.wire.specs.declared.counted.Counted.{Counted}
-use Rattle.wire.specs.Bytes.{byteBytes}
+use Rattle.wire.specs.Bytes.{Bytes, byteBytes}
 use Rattle.wire.specs.Reading.{Read, andThen, countAt, isCount}
 use Rattle.wire.specs.Writing.{Written, putAt, thenPut, rowsPut}
 
@@ -61,3 +62,10 @@ optionalPut put (Some x) out at = put x out at
 abbrev pub optionalHeld : {A : Type 0} → (A → Bool) → Option A → Bool
 optionalHeld held None = true
 optionalHeld held (Some x) = held x
+
+-- reading and writing a field that may be left out undo each other
+pub record OptionalUndone {A : Type 0} (present : Bool) (parsed : List ℕ → ℕ → Read A) (bytesOf : A → List ℕ) (held : A → Bool) : Type 0 where
+  pub restores : (v : Option A) (bytes rest : List ℕ) (at : ℕ) → isSome v ≡ present → optionalHeld held v ≡ true → drop at bytes ≡ optionalBytes bytesOf v ++ rest
+      → optionalAt present parsed bytes at ≡ Ok (v, at + length (optionalBytes bytesOf v))
+  pub exact : (bytes : List ℕ) (at : ℕ) (v : Option A) (next : ℕ) → Bytes bytes → optionalAt present parsed bytes at ≡ Ok (v, next)
+      → (isSome v ≡ present) × (optionalHeld held v ≡ true) × (next ≡ at + length (optionalBytes bytesOf v)) × (drop at bytes ≡ optionalBytes bytesOf v ++ drop next bytes)

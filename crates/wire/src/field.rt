@@ -2,11 +2,11 @@
 ghost use mathlib.Core.Path.{_≡_};
 ghost use mathlib.Core.Bool.{Bool, true};
 ghost use mathlib.Core.List.{List, []};
-ghost use Prim.Native.Nat.{ℕ, _≤_};
+ghost use Prim.Native.Nat.{ℕ, _+_, _*_, _≤_, _<_};
 ghost use lib.ListN.{length};
 ghost use Rattle.wire.specs.Laws.{Lawful, Puts};
 ghost use Rattle.wire.specs.Reading.{Read};
-ghost use Rattle.wire.specs.Rows.{packedAt, countedAt, countedPut, optionalAt, optionalPut};
+ghost use Rattle.wire.specs.Rows.{packedAt, countedAt, countedBytes, countedHeld, countedPut, optionalAt, optionalPut, OptionalUndone};
 ghost use Rattle.wire.specs.Writing.{Written, rowsPut};
 use crate::counted::Counted;
 use crate::reading::count_at;
@@ -76,7 +76,8 @@ pub fn counted_at<T: Field, const N: usize>(
     bytes: &[u8],
     at: usize,
 ) -> Result<(Counted<T, N>, usize), Fault>
-    ensures { λ r. ⌜ r ≡ countedAt (T·Field .blank) (T·Field .parsed) N (now (bytes .entry)) at ⌝ }
+    ensures value { λ r. ⌜ r ≡ countedAt (T·Field .blank) (T·Field .parsed) N (now (bytes .entry)) at ⌝ }
+    ensures lawful { λ _. ⌜ (N < 256 → Lawful (countedAt (T·Field .blank) (T·Field .parsed) N) (countedBytes (T·Field .encoded)) (countedHeld (T·Field .held) (T·Field .isBlank)) (1 + N * T·Field .longest)) ⌝ }
 {
     let (count, next) = count_at(N, bytes, at)?;
     rows_at(count, bytes, next)
@@ -113,7 +114,8 @@ pub fn optional_at<T: Field>(
     bytes: &[u8],
     at: usize,
 ) -> Result<(Option<T>, usize), Fault>
-    ensures { λ r. ⌜ r ≡ optionalAt present (T·Field .parsed) (now (bytes .entry)) at ⌝ }
+    ensures value { λ r. ⌜ r ≡ optionalAt present (T·Field .parsed) (now (bytes .entry)) at ⌝ }
+    ensures lawful { λ _. ⌜ OptionalUndone present (T·Field .parsed) (T·Field .encoded) (T·Field .held) ⌝ }
 {
     if !present {
         return Ok((None, at));

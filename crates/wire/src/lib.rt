@@ -4,11 +4,14 @@ ghost use Rattle.wire.specs.Maps.{stands};
 
 pub mod counted;
 pub mod field;
+pub mod laws;
+pub mod quantity;
 pub mod reading;
 pub mod writing;
 
 pub use counted::Counted;
 pub use field::Field;
+pub use quantity::QuantityField;
 
 // Whether a bit stands in a map, bit 0 being the lowest.
 pub fn stands_in(map: u16, bit: u32) -> bool

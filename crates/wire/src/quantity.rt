@@ -1,0 +1,37 @@
+// A quantity as a field: hundredths of a MW, at most 10,000,000.
+ghost use lib.Dec.{eqb};
+ghost use Rattle.wire.specs.Bytes.{longBytes};
+ghost use Rattle.wire.specs.Reading.{isQuantity, quantityAt};
+ghost use Rattle.wire.specs.Writing.{putAt};
+use crate::field::Field;
+use crate::reading::quantity_at;
+use crate::writing::put_long;
+use faults::Fault;
+
+pub impl Field for u32 as QuantityField {
+    ghost blank = { 0 };
+
+    ghost isBlank = { λ v. eqb v 0 };
+
+    ghost parsed = { quantityAt };
+
+    ghost encoded = { longBytes };
+
+    ghost put = { λ v. putAt (longBytes v) };
+
+    ghost held = { isQuantity };
+
+    ghost longest = { 4 };
+
+    fn blank() -> u32 {
+        0
+    }
+
+    fn read(bytes: &[u8], at: usize) -> Result<(u32, usize), Fault> {
+        quantity_at(bytes, at)
+    }
+
+    fn write(&self, out: &mut [u8], at: usize) -> Result<usize, Fault> {
+        put_long(*self, out, at)
+    }
+}
