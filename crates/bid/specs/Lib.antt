@@ -1,2 +1,4 @@
 pub mod Fields
 pub mod Kept
+pub mod Record
+pub mod Read

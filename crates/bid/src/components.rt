@@ -1,5 +1,6 @@
 // The components of a bid as plain numbers, in the order of its record.
 use wire::Counted;
+use wire::counted::CountedDebug;
 
 // Energy up to `end` (hundredths of a MW) at `price` (cents a MWh).
 #[derive(Clone, Copy, Debug)]
@@ -37,7 +38,10 @@ pub struct StartUpPair {
     pub cost: u32,
 }
 
-pub type StartUp = Counted<StartUpPair, 3>;
+#[derive(Clone, Copy, Debug)]
+pub struct StartUp {
+    pub pairs: Counted<StartUpPair, 3>,
+}
 
 // The ramp rate (hundredths of a MW in a minute) from an operating level on.
 #[derive(Clone, Copy, Debug)]
@@ -46,7 +50,10 @@ pub struct RampPair {
     pub rate: u32,
 }
 
-pub type Ramp = Counted<RampPair, 4>;
+#[derive(Clone, Copy, Debug)]
+pub struct Ramp {
+    pub pairs: Counted<RampPair, 4>,
+}
 
 // Everything that a bid says; nothing is promised of its numbers.
 #[derive(Clone, Copy, Debug)]

@@ -2,6 +2,8 @@
 pub mod bid;
 pub mod components;
 pub mod fields;
+mod making;
+mod record;
 
 pub use bid::Bid;
 pub use components::Components;

@@ -3,7 +3,7 @@ use mathlib.Core.Path.{_≡_, refl, sym, ap, subst, _∙_}
 use mathlib.Core.Bool.{Bool, true, false, cond, _&&_}
 use mathlib.Core.List.{List, [], _∷_, _++_, append-assoc}
 use mathlib.Core.Logic.{_⊎_, inl, inr}
-use Prim.Native.Nat.{ℕ, zero, suc, _+_, _-_, _*_, _≤_, _<_}
+use Prim.Native.Nat.{ℕ, zero, suc, _+_, _-_, _*_, _≤_, _<_, min}
 use native.Mathlib.Nat.{add-assoc, add-zero, suc-mul, mul-le-mul-right}
 use native.Mathlib.Omega.{arith}
 use lib.Dec.{leb, eqb}
@@ -21,6 +21,9 @@ use Rattle.wire.specs.Rows.{entries, packed, packedAt, countedAt, countedBytes
 use Rattle.wire.proofs.Numbers.{length-bytesOf}
 use Rattle.wire.proofs.Lawful.{count-lawful, fault-wider}
 use Rattle.wire.proofs.Steps.{ok-not-err, ok-same, then-read, then-failed, then-is, drop-on}
+
+count-most : (n v : ℕ) → isCount n v ≡ true → v ≤ n
+count-most n v h = omega (arith, leb-true v (min n 255) (and-parts (leb 1 v) (leb v (min n 255)) h .1))
 
 all-replicate : {A : Type 0} (test : A → Bool) (x : A) → test x ≡ true → (n : ℕ) → allHeld test (replicate n x) ≡ true
 all-replicate test x h zero = refl
@@ -47,7 +50,7 @@ module _ {A : Type 0} (blank : A) (isBlank : A → Bool) (blanks : (v : A) → i
     counts = parts₃ .0
 
     pub at-most : c .count ≤ n
-    at-most = leb-true (c .count) n (and-parts (leb 1 (c .count)) (leb (c .count) n) counts .1)
+    at-most = count-most n (c .count) counts
 
     pub rows-long : length (c .rows) ≡ n
     rows-long = eqb-true (length (c .rows)) n (parts₃ .1)
@@ -71,7 +74,7 @@ module _ {A : Type 0} (blank : A) (isBlank : A → Bool) (blanks : (v : A) → i
 
   pub packed-held : (a : A → Bool) (n : ℕ) (xs : List A) → isCount n (length xs) ≡ true → allHeld a xs ≡ true → countedHeld a isBlank (packed blank n xs) ≡ true
   packed-held a n xs counts held =
-      let few : length xs ≤ n = leb-true (length xs) n (and-parts (leb 1 (length xs)) (leb (length xs) n) counts .1) in
+      let few : length xs ≤ n = count-most n (length xs) counts in
       let long : length (xs ++ replicate (n - length xs) blank) ≡ n = length-append xs (replicate (n - length xs) blank) ∙ ap (λ k. length xs + k) (length-replicate (n - length xs) blank) ∙ omega arith in
       and-from _ _ (and-from _ _ (and-from _ _ counts (eq-eqb _ _ long)) (ap (allHeld a) (entries-packed n xs) ∙ held))
       (ap (allHeld isBlank) (drop-at xs (replicate (n - length xs) blank) (length xs) refl) ∙ all-replicate isBlank blank blanked (n - length xs))
@@ -134,23 +137,23 @@ module _ {A : Type 0} (blank : A) {p : List ℕ → ℕ → Read A} {f : A → L
   count-then : List ℕ → ℕ → ℕ → Read (Counted A n)
   count-then bytes count next = packedAt blank p n count [] bytes next
 
-  pub counted-lawful : n < 256 → (isBlank : A → Bool) → ((v : A) → isBlank v ≡ true → v ≡ blank) → isBlank blank ≡ true
+  pub counted-lawful : (isBlank : A → Bool) → ((v : A) → isBlank v ≡ true → v ≡ blank) → isBlank blank ≡ true
       → Lawful (countedAt blank p n) (countedBytes f) (countedHeld a isBlank) (1 + n * m)
   unfolding count-then
-  counted-lawful few isBlank blanks blanked = record {
+  counted-lawful isBlank blanks blanked = record {
     restores = λ c bytes rest at held e.
         let xs : List A = entries c in
         let long = entries-long blank isBlank blanks blanked a c held in
         let e₁ : drop at bytes ≡ bytesOf 1 (c .count) ++ (joined f xs ++ rest) = e ∙ append-assoc (bytesOf 1 (c .count)) (joined f xs) rest in
         let e₂ : drop (at + 1) bytes ≡ joined f xs ++ rest = drop-on bytes (bytesOf 1 (c .count)) (joined f xs ++ rest) at e₁ in
-        then-is (count-then bytes) (count-lawful n few .restores (c .count) bytes (joined f xs ++ rest) at (counts blank isBlank blanks blanked a c held) e₁)
+        then-is (count-then bytes) (count-lawful n .restores (c .count) bytes (joined f xs ++ rest) at (counts blank isBlank blanks blanked a c held) e₁)
         ∙ ap (λ k. packedAt blank p n k [] bytes (at + 1)) (sym long)
         ∙ rows-restore xs [] bytes rest (at + 1) (entries-held blank isBlank blanks blanked a c held) e₂
         ∙ ap (λ w. Ok (w, at + 1 + length (joined f xs))) (packed-entries blank isBlank blanks blanked a c held)
         ∙ ap (λ k. Ok (c, k)) (add-assoc at 1 (length (joined f xs)) ∙ ap (λ k. at + k) (omega arith));
     exact = λ bytes at c next all e.
         let r = then-read (countAt n bytes at) (count-then bytes) (c, next) e in
-        let x = count-lawful n few .exact bytes at (r .0) (r .1) all (r .2) in
+        let x = count-lawful n .exact bytes at (r .0) (r .1) all (r .2) in
         let s = rows-exact (r .0) [] bytes (r .1) c next all (r .3) in
         let is : c ≡ packed blank n (s .0) = s .3 in
         let here : isCount n (length (s .0)) ≡ true = ap (isCount n) (s .1) ∙ x .0 in
@@ -162,10 +165,10 @@ module _ {A : Type 0} (blank : A) {p : List ℕ → ℕ → Read A} {f : A → L
           x .2 ∙ ap (λ l. bytesOf 1 (r .0) ++ l) (s .5) ∙ sym (append-assoc (bytesOf 1 (r .0)) (joined f (s .0)) (drop next bytes)) ∙ ap (λ l. l ++ drop next bytes) (sym written),
         );
     placed = λ bytes at fault all e. elim (then-failed (countAt n bytes at) (count-then bytes) fault e) [
-      | inl h ↦ fault-wider fault (at + 1) (at + (1 + n * m)) (omega arith) (count-lawful n few .placed bytes at fault all h)
+      | inl h ↦ fault-wider fault (at + 1) (at + (1 + n * m)) (omega arith) (count-lawful n .placed bytes at fault all h)
       | inr r ↦ (
-          let x = count-lawful n few .exact bytes at (r .0) (r .1) all (r .2) in
-          let few : r .0 ≤ n = leb-true (r .0) n (and-parts (leb 1 (r .0)) (leb (r .0) n) (x .0) .1) in
+          let x = count-lawful n .exact bytes at (r .0) (r .1) all (r .2) in
+          let few : r .0 ≤ n = count-most n (r .0) (x .0) in
           let fewer : r .0 * m ≤ n * m = mul-le-mul-right m few in
           fault-wider fault (r .1 + r .0 * m) (at + (1 + n * m)) (omega (arith, x .1)) (rows-placed (r .0) [] bytes (r .1) fault all (r .3)))
     ];
@@ -177,3 +180,11 @@ module _ {A : Type 0} (blank : A) {p : List ℕ → ℕ → Read A} {f : A → L
         let rows = rows-short xs (entries-held blank isBlank blanks blanked a c held) in
         omega (arith, length-append (bytesOf 1 (c .count)) (joined f xs));
   }
+
+length-joined : {A : Type 0} (f : A → List ℕ) (m : ℕ) → ((x : A) → length (f x) ≡ m) → (xs : List A) → length (joined f xs) ≡ length xs * m
+length-joined f m each [] = omega arith
+length-joined f m each (x ∷ xs) = omega (arith, length-append (f x) (joined f xs), each x, length-joined f m each xs, suc-mul (length xs) m)
+
+-- counted rows of one length take a byte and so many times that length
+pub length-counted : {A : Type 0} {n : ℕ} (f : A → List ℕ) (m : ℕ) → ((x : A) → length (f x) ≡ m) → (c : Counted A n) → length (countedBytes f c) ≡ 1 + length (entries c) * m
+length-counted f m each c = let rows = length-joined f m each (entries c) in omega arith

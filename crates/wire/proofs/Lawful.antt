@@ -27,7 +27,7 @@ use Rattle.std.specs.declared.option.Option.{Option}
 use Rattle.std.specs.declared.option.Option.the-variants.{Some, None}
 use Rattle.std.specs.Options.{isSome}
 use Rattle.wire.specs.Rows.{optionalAt, optionalBytes, optionalHeld, OptionalUndone}
-use Rattle.wire.specs.Reading.{Read, andThen, numberAt, ranged, rangedAt, isPrice, priceAt, isQuantity, quantityAt, isCount, countAt, isMap, mapAt, byteAt, longAt, pairAt, faultAt, placeOf}
+use Rattle.wire.specs.Reading.{Read, andThen, numberAt, ranged, rangedAt, isPrice, priceAt, isQuantity, quantityAt, isCount, countAt, isMap, mapAt, byteAt, longAt, madeAt, pairAt, faultAt, placeOf}
 use Rattle.wire.proofs.Numbers.{number-stands, number-bytesOf, bytesOf-number, length-bytesOf, bigEndian-lt}
 use Rattle.wire.proofs.Steps.{ok-not-err, ok-same, err-same, then-read, then-failed, then-is, drop-on}
 
@@ -149,17 +149,33 @@ price-lawful = record {
 pub quantity-lawful : Lawful quantityAt (bytesOf 4) isQuantity 4
 quantity-lawful = ranged-lawful OutOfRange refl 4 (omega arith) isQuantity (λ v h. omega (arith, leb-true v 10000000 h))
 
-count-small : (most v : ℕ) → most < 256 → isCount most v ≡ true → ltb v 256 ≡ true
-count-small most v few held = lt-ltb v 256 (omega (arith, leb-true v most (and-parts (leb 1 v) (leb v most) held .1)))
-
 -- a count byte
-pub count-lawful : (most : ℕ) → most < 256 → Lawful (countAt most) (bytesOf 1) (isCount most) 1
-count-lawful most few = ranged-lawful BadCount refl 1 (omega arith) (isCount most) (λ v h. ltb-true v 256 (count-small most v few h))
+pub count-lawful : (most : ℕ) → Lawful (countAt most) (bytesOf 1) (isCount most) 1
+count-lawful most = ranged-lawful BadCount refl 1 (omega arith) (isCount most) (λ v h. omega (arith, leb-true v (min most 255) (and-parts (leb 1 v) (leb v (min most 255)) h .1)))
 
 -- a bit map
 pub map-lawful : (last : ℕ) → last < 16 → Lawful (mapAt last) (bytesOf 2) (isMap last) 2
 map-lawful last few = ranged-lawful UnknownBit refl 2 (omega arith) (isMap last)
     (λ v h. let top : 2 ^ (last + 1) ≤ 65536 = pow-le-pow-right {n = 2} (omega arith) {i = last + 1} {j = 16} (omega arith) in omega (arith, ltb-true v (2 ^ (last + 1)) h))
+
+-- a field that makes a value
+pub made-lawful : {A C : Type 0} (make : A → C) (inner : C → A) → ((v : C) → make (inner v) ≡ v) → ((x : A) → inner (make x) ≡ x)
+    → {p : List ℕ → ℕ → Read A} {f : A → List ℕ} {a : A → Bool} {n : ℕ} → Lawful p f a n → Lawful (madeAt make p) (λ v. f (inner v)) (λ v. a (inner v)) n
+made-lawful make inner remade inner-is {p} {f} {a} {n} P = record {
+  restores = λ v bytes rest at held e. then-is (λ x next. Ok (make x, next)) (P .restores (inner v) bytes rest at held e) ∙ ap (λ w. Ok (w, at + length (f (inner v)))) (remade v);
+  exact = λ bytes at v next all e.
+      let r = then-read (p bytes at) (λ x after. Ok (make x, after)) (v, next) e in
+      let x = P .exact bytes at (r .0) (r .1) all (r .2) in
+      let same = ok-same (r .3) in
+      let is : inner v ≡ r .0 = sym (ap (λ w. inner (w .0)) same) ∙ inner-is (r .0) in
+      let after : r .1 ≡ next = ap (λ w. w .1) same in
+      (ap a is ∙ x .0, sym after ∙ x .1 ∙ ap (λ k. at + length (f k)) (sym is), x .2 ∙ ap (λ k. f k ++ drop (r .1) bytes) (sym is) ∙ ap (λ k. f (inner v) ++ drop k bytes) after);
+  placed = λ bytes at fault all e. elim (then-failed (p bytes at) (λ x next. Ok (make x, next)) fault e) [
+    | inl h ↦ P .placed bytes at fault all h
+    | inr r ↦ absurd (ok-not-err _ _ (r .3))
+  ];
+  short = λ v held. P .short (inner v) held;
+}
 
 -- two fields that make one value
 module _ {A B C : Type 0} (make : A → B → C) (first : C → A) (second : C → B)
@@ -254,3 +270,20 @@ module _ {A : Type 0} {p : List ℕ → ℕ → Read A} {f : A → List ℕ} {a 
 
   pub optional-undone : (present : Bool) → OptionalUndone present p f a
   optional-undone present = record { restores = optional-restores present; exact = optional-exact present }
+
+  pub optional-near : (present : Bool) (bytes : List ℕ) (at : ℕ) (v : Option A) (next : ℕ) → Bytes bytes → optionalAt present p bytes at ≡ Ok (v, next) → next ≤ at + n
+  optional-near present bytes at v next all e =
+      let x = optional-exact present bytes at v next all e in
+      let s = optional-short v (x .1) in
+      omega (arith, x .2)
+
+  pub near : (bytes : List ℕ) (at : ℕ) (v : A) (next : ℕ) → Bytes bytes → p bytes at ≡ Ok (v, next) → next ≤ at + n
+  near bytes at v next all e =
+      let x = P .exact bytes at v next all e in
+      let s = P .short v (x .0) in
+      omega (arith, x .1)
+
+-- a fault of the whole is one of the first part or of the rest
+pub placed-then : {A B : Type 0} (n : ℕ) (p : Read A) (k : A → ℕ → Result B Fault) (f : Fault)
+    → (p ≡ Err f → FaultWithin n f) → ((x : A) (next : ℕ) → p ≡ Ok (x, next) → k x next ≡ Err f → FaultWithin n f) → andThen p k ≡ Err f → FaultWithin n f
+placed-then n p k f first rest e = elim (then-failed p k f e) [ inl h ↦ first h | inr r ↦ rest (r .0) (r .1) (r .2) (r .3) ]

@@ -84,3 +84,8 @@ map-known last map small (inr h) = elim (cases-lt map (2 ^ (last + 1))) [
       let some : 0 < map / 2 ^ (last + 1) = le-div 1 map (2 ^ (last + 1)) (pow-pos (last + 1)) (omega arith) in
       absurd (omega (arith, h .1)))
 ]
+
+pub mapOf-lt : (bs : List Bool) → mapOf bs < 2 ^ length bs
+mapOf-lt [] = omega arith
+mapOf-lt (true ∷ bs) = let ih = mapOf-lt bs in omega (arith, pow-succ' 2 (length bs))
+mapOf-lt (false ∷ bs) = let ih = mapOf-lt bs in omega (arith, pow-succ' 2 (length bs))

@@ -1,11 +1,11 @@
 -- Counted rows, one row at a time. Assumes nothing.
 use mathlib.Core.Path.{_≡_, refl, sym, ap, subst, _∙_}
 use mathlib.Core.List.{List, [], _∷_, _++_}
-use Prim.Native.Nat.{ℕ, suc, _+_, _-_, _≤_, _<_, min}
+use Prim.Native.Nat.{ℕ, suc, _+_, _-_, _≤_, _<_}
 use native.Mathlib.Omega.{arith}
 use mathlib.Core.Logic.{inl, inr}
 use lib.ListN.{length, take, drop, set, replicate, getD, take-append-drop}
-use Rattle.std.proofs.shelf.Lists.{drop-drop, drop-set-lt, drop-replicate, length-take-le, drop-more, drop-all, take-all}
+use Rattle.std.proofs.shelf.Lists.{drop-drop, drop-set-lt, drop-replicate, length-take-le, drop-more, drop-all, take-all, length-take}
 use Rattle.std.proofs.shelf.Tests.{cases-lt}
 use Rattle.std.specs.declared.result.Result.the-variants.{Ok, Err}
 use Rattle.faults.specs.declared.Fault.{Fault}
@@ -70,9 +70,9 @@ module _ {A : Type 0} (put : A → List ℕ → ℕ → Written) (xs : List A) (
 pub puts-done : {A : Type 0} (put : A → List ℕ → ℕ → Written) (xs : List A) (i : ℕ) → length xs ≤ i → (out : List ℕ) (at : ℕ) → (Ok at, out) ≡ rowsPut put (drop i xs) out at
 puts-done put xs i h out at = sym (ap (λ l. rowsPut put l out at) (drop-all i xs h))
 
--- no more rows count than there are
-pub take-within : {A : Type 0} (xs : List A) (n k m : ℕ) → length xs ≡ n → m ≡ min n k → take m xs ≡ take k xs
-take-within xs n k m long e = elim (cases-lt n k) [
-  | inl h ↦ (let all : length xs ≤ m = omega arith in let also : length xs ≤ k = omega arith in take-all m xs all ∙ sym (take-all k xs also))
-  | inr h ↦ ap (λ j. take j xs) (omega arith)
+-- no more rows stand than there are
+pub take-standing : {A : Type 0} (xs : List A) (k m : ℕ) → m ≡ length (take k xs) → take m xs ≡ take k xs
+take-standing xs k m e = elim (cases-lt (length xs) k) [
+  | inl h ↦ (let all : length xs ≤ m = omega (arith, length-take k xs) in let also : length xs ≤ k = omega arith in take-all m xs all ∙ sym (take-all k xs also))
+  | inr h ↦ ap (λ j. take j xs) (omega (arith, length-take k xs))
 ]

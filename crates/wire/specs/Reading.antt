@@ -76,8 +76,9 @@ costAt = longAt
 abbrev pub downTimeAt : List ℕ → ℕ → Read ℕ
 downTimeAt = wordAt
 
+-- a count byte of at least 1 and at most `most`
 abbrev pub isCount : ℕ → ℕ → Bool
-isCount most v = leb 1 v && leb v most
+isCount most v = leb 1 v && leb v (min most 255)
 
 abbrev pub countAt : ℕ → List ℕ → ℕ → Read ℕ
 countAt most = rangedAt BadCount 1 (isCount most)
@@ -88,6 +89,10 @@ isMap last v = ltb v (2 ^ (last + 1))
 
 abbrev pub mapAt : ℕ → List ℕ → ℕ → Read ℕ
 mapAt last = rangedAt UnknownBit 2 (isMap last)
+
+-- a field that makes a value
+abbrev pub madeAt : {A C : Type 0} → (A → C) → (List ℕ → ℕ → Read A) → List ℕ → ℕ → Read C
+madeAt make field bytes at = andThen (field bytes at) (λ x next. Ok (make x, next))
 
 -- two fields, one after the other, that make one value
 abbrev pub pairAt : {A B C : Type 0} → (A → B → C) → (List ℕ → ℕ → Read A) → (List ℕ → ℕ → Read B) → List ℕ → ℕ → Read C

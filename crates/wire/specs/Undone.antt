@@ -13,5 +13,5 @@ pub record FieldsUndone : Type 0 where
   pub price : Lawful priceAt signedBytes isPrice 4
   pub cost : Lawful costAt longBytes (λ v. ltb v 4294967296) 4
   pub downTime : Lawful downTimeAt wordBytes (λ v. ltb v 65536) 2
-  pub count : (most : ℕ) → most < 256 → Lawful (countAt most) byteBytes (isCount most) 1
+  pub count : (most : ℕ) → Lawful (countAt most) byteBytes (isCount most) 1
   pub map : (last : ℕ) → last < 16 → Lawful (mapAt last) wordBytes (isMap last) 2

@@ -2,11 +2,11 @@
 ghost use mathlib.Core.Path.{_≡_};
 ghost use mathlib.Core.Bool.{Bool, true};
 ghost use mathlib.Core.List.{List, []};
-ghost use Prim.Native.Nat.{ℕ, _+_, _*_, _≤_, _<_};
+ghost use Prim.Native.Nat.{ℕ, _+_, _*_, _≤_};
 ghost use lib.ListN.{length};
 ghost use Rattle.wire.specs.Laws.{Lawful, Puts};
 ghost use Rattle.wire.specs.Reading.{Read};
-ghost use Rattle.wire.specs.Rows.{packedAt, countedAt, countedBytes, countedHeld, countedPut, optionalAt, optionalPut, OptionalUndone};
+ghost use Rattle.wire.specs.Rows.{entries, packedAt, countedAt, countedBytes, countedHeld, countedPut, optionalAt, optionalPut, OptionalUndone};
 ghost use Rattle.wire.specs.Writing.{Written, rowsPut};
 use crate::counted::Counted;
 use crate::reading::count_at;
@@ -14,11 +14,6 @@ use crate::writing::put_byte;
 use faults::Fault;
 
 pub trait Field: Copy {
-    // what stands in an array behind the rows that count
-    ghost blank: { Self };
-
-    ghost isBlank: { Self → Bool };
-
     // what reading at a place of some bytes gives
     ghost parsed: { List ℕ → ℕ → Read Self };
 
@@ -38,13 +33,6 @@ pub trait Field: Copy {
 
     law puts: { (v : Self) → Puts (put v) (encoded v) };
 
-    law blanks: { (v : Self) → isBlank v ≡ true → v ≡ blank };
-
-    law blanked: { isBlank blank ≡ true };
-
-    fn blank() -> Self
-        ensures { λ r. ⌜ r ≡ blank ⌝ };
-
     fn read(bytes: &[u8], at: usize) -> Result<(Self, usize), Fault>
         ensures { λ r. ⌜ r ≡ parsed (now (bytes .entry)) at ⌝ };
 
@@ -53,13 +41,28 @@ pub trait Field: Copy {
         ensures memory { λ _. ⌜ now (out .exit) ≡ put (now (self .entry)) (now (out .entry)) at .1 ⌝ };
 }
 
-fn rows_at<T: Field, const N: usize>(
+// A field that stands in counted rows.
+pub trait Row: Field {
+    // what stands in an array behind the rows that count
+    ghost blank: { Self };
+
+    ghost isBlank: { Self → Bool };
+
+    law blanks: { (v : Self) → isBlank v ≡ true → v ≡ blank };
+
+    law blanked: { isBlank blank ≡ true };
+
+    fn blank() -> Self
+        ensures { λ r. ⌜ r ≡ blank ⌝ };
+}
+
+fn rows_at<T: Row, const N: usize>(
     count: u8,
     bytes: &[u8],
     at: usize,
 ) -> Result<(Counted<T, N>, usize), Fault>
     requires { ⌜ count ≤ N ⌝ }
-    ensures { λ r. ⌜ r ≡ packedAt (T·Field .blank) (T·Field .parsed) N count [] (now (bytes .entry)) at ⌝ }
+    ensures { λ r. ⌜ r ≡ packedAt (T·Row .blank) (T·Field .parsed) N count [] (now (bytes .entry)) at ⌝ }
 {
     let mut rows = [T::blank(); N];
     let mut next = at;
@@ -72,12 +75,12 @@ fn rows_at<T: Field, const N: usize>(
 }
 
 // A count from 1 to N, and that many rows, with blanks behind them.
-pub fn counted_at<T: Field, const N: usize>(
+pub fn counted_at<T: Row, const N: usize>(
     bytes: &[u8],
     at: usize,
 ) -> Result<(Counted<T, N>, usize), Fault>
-    ensures value { λ r. ⌜ r ≡ countedAt (T·Field .blank) (T·Field .parsed) N (now (bytes .entry)) at ⌝ }
-    ensures lawful { λ _. ⌜ (N < 256 → Lawful (countedAt (T·Field .blank) (T·Field .parsed) N) (countedBytes (T·Field .encoded)) (countedHeld (T·Field .held) (T·Field .isBlank)) (1 + N * T·Field .longest)) ⌝ }
+    ensures value { λ r. ⌜ r ≡ countedAt (T·Row .blank) (T·Field .parsed) N (now (bytes .entry)) at ⌝ }
+    ensures lawful { λ _. ⌜ Lawful (countedAt (T·Row .blank) (T·Field .parsed) N) (countedBytes (T·Field .encoded)) (countedHeld (T·Field .held) (T·Row .isBlank)) (1 + N * T·Field .longest) ⌝ }
 {
     let (count, next) = count_at(N, bytes, at)?;
     rows_at(count, bytes, next)
@@ -94,7 +97,16 @@ fn put_rows<T: Field>(rows: &[T], out: &mut [u8], at: usize) -> Result<usize, Fa
     Ok(next)
 }
 
-// The count as it stands, and the rows that count, of those that there are.
+// How many rows stand: as many as count, of those that there are.
+pub fn rows_standing<T, const N: usize>(counted: &Counted<T, N>) -> usize
+    ensures value { λ r. ⌜ r ≡ length (entries (now (counted .entry))) ⌝ }
+    ensures bound { λ r. ⌜ r ≤ N ⌝ }
+{
+    let rows = &counted.rows[..];
+    rows.len().min(counted.count as usize)
+}
+
+// The count as it stands, and the rows that stand.
 pub fn put_counted<T: Field, const N: usize>(
     counted: &Counted<T, N>,
     out: &mut [u8],
@@ -105,7 +117,7 @@ pub fn put_counted<T: Field, const N: usize>(
 {
     let next = put_byte(counted.count, out, at)?;
     let rows = &counted.rows[..];
-    put_rows(&rows[0..N.min(counted.count as usize)], out, next)
+    put_rows(&rows[0..rows_standing(counted)], out, next)
 }
 
 // A field that stands where its bit does.

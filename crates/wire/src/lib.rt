@@ -11,6 +11,7 @@ pub mod writing;
 
 pub use counted::Counted;
 pub use field::Field;
+pub use field::Row;
 pub use quantity::QuantityField;
 
 // Whether a bit stands in a map, bit 0 being the lowest.

@@ -1,5 +1,4 @@
 // A quantity as a field: hundredths of a MW, at most 10,000,000.
-ghost use lib.Dec.{eqb};
 ghost use Rattle.wire.specs.Bytes.{longBytes};
 ghost use Rattle.wire.specs.Reading.{isQuantity, quantityAt};
 ghost use Rattle.wire.specs.Writing.{putAt};
@@ -9,10 +8,6 @@ use crate::writing::put_long;
 use faults::Fault;
 
 pub impl Field for u32 as QuantityField {
-    ghost blank = { 0 };
-
-    ghost isBlank = { λ v. eqb v 0 };
-
     ghost parsed = { quantityAt };
 
     ghost encoded = { longBytes };
@@ -22,10 +17,6 @@ pub impl Field for u32 as QuantityField {
     ghost held = { isQuantity };
 
     ghost longest = { 4 };
-
-    fn blank() -> u32 {
-        0
-    }
 
     fn read(bytes: &[u8], at: usize) -> Result<(u32, usize), Fault> {
         quantity_at(bytes, at)

@@ -9,5 +9,5 @@ use Rattle.wire.proofs.field.rows_at.Given as given
 abbrev pub Inv-loop-i : given.InvT-loop-i
 Inv-loop-i g l =
     let f = g .T·Field in
-    (length (l .rows) ≡ g .N) × (drop (l .i) (l .rows) ≡ replicate (g .N - l .i) (f .blank))
-    × (packedAt (f .blank) (f .parsed) (g .N) (l .count - l .i) (take (l .i) (l .rows)) (l .bytes) (l .next) ≡ packedAt (f .blank) (f .parsed) (g .N) (l .count) [] (l .bytes) (l .entry .next))
+    (length (l .rows) ≡ g .N) × (drop (l .i) (l .rows) ≡ replicate (g .N - l .i) (g .T·Row .blank))
+    × (packedAt (g .T·Row .blank) (f .parsed) (g .N) (l .count - l .i) (take (l .i) (l .rows)) (l .bytes) (l .next) ≡ packedAt (g .T·Row .blank) (f .parsed) (g .N) (l .count) [] (l .bytes) (l .entry .next))

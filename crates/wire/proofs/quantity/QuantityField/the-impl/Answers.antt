@@ -1,5 +1,3 @@
-use mathlib.Core.Path.{refl}
-use Rattle.std.proofs.shelf.Tests.{eqb-true}
 use Rattle.wire.specs.Bytes.{longBytes}
 use Rattle.wire.proofs.Laid.{puts-bytes}
 use Rattle.wire.proofs.Lawful.{quantity-lawful}
@@ -10,9 +8,3 @@ lawful-law = quantity-lawful
 
 pub puts-law : need.puts-law
 puts-law v = puts-bytes (longBytes v)
-
-pub blanks-law : need.blanks-law
-blanks-law v h = eqb-true v 0 h
-
-pub blanked-law : need.blanked-law
-blanked-law = refl
