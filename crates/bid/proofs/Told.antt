@@ -14,6 +14,7 @@ use Rattle.std.proofs.shelf.Lists.{take-at}
 use Rattle.std.proofs.shelf.Tests.{cond-true, cond-false, le-leb, lt-leb}
 use Rattle.std.specs.declared.result.Result.{Result}
 use Rattle.std.specs.declared.result.Result.the-variants.{Ok, Err}
+use Rattle.std.specs.Vec.{made}
 use Rattle.faults.specs.Answers.{resultAnswer}
 use Rattle.faults.specs.declared.Fault.{Fault}
 use Rattle.wire.specs.Bytes.{Bytes, byteBytes, wordBytes, longBytes}
@@ -82,3 +83,6 @@ written-short c out short = cond-false (leb (length (recordBytes c)) (length out
 -- what was written at the front is read again
 pub front-restores : (c : Components) (out : List ℕ) (n : ℕ) → keeps c ≡ true → n ≡ length (recordBytes c) → recordRead (take n (recordBytes c ++ drop (length (recordBytes c)) out)) ≡ Ok c
 front-restores c out n held e = ap recordRead (take-at (recordBytes c) (drop (length (recordBytes c)) out) n (sym e)) ∙ record-whole c held
+
+pub written-within : (c : Components) (out : List ℕ) (r : Result ℕ Fault) (after : List ℕ) → length (recordBytes c) ≤ length out → r ≡ Ok (length (recordBytes c)) → length after ≡ length out → made r (λ n. n ≤ length after)
+written-within c out r after room e same = subst (λ x. made x (λ n. n ≤ length after)) (sym e) (omega arith)

@@ -6,6 +6,7 @@ ghost use Prim.Native.Nat.{ℕ, _≤_};
 ghost use lib.ListN.{length, take};
 ghost use Rattle.faults.specs.Answers.{resultAnswer};
 ghost use Rattle.std.specs.declared.result.Result.the-variants.{Ok};
+ghost use Rattle.std.specs.Vec.{made};
 ghost use Rattle.bid.specs.Read.{told};
 ghost use Rattle.bid.specs.Record.{recordRead, recordBytes, recordWritten, ReadsRecords, TellsBytesLeft};
 use crate::bid::Bid;
@@ -47,6 +48,7 @@ impl Bid {
     pub fn write(&self, out: &mut [u8]) -> Result<usize, Fault>
         ensures answer { λ r. ⌜ r ≡ recordWritten (now (self .entry) .components) (now (out .entry)) .0 ⌝ }
         ensures memory { λ _. ⌜ now (out .exit) ≡ recordWritten (now (self .entry) .components) (now (out .entry)) .1 ⌝ }
+        ensures within { λ r. ⌜ made r (λ n. n ≤ length (now (out .exit))) ⌝ }
         ensures restores { λ r. ⌜ ((n : ℕ) → r ≡ Ok n → recordRead (take n (now (out .exit))) ≡ Ok (now (self .entry) .components)) ⌝ }
     {
         if out.len() < self.length() {
