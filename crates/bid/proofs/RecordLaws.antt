@@ -58,7 +58,7 @@ abbrev Agrees : ℕ → Services → Type 0
 Agrees map s =
     (isSome (s .«regulation_up») ≡ stands 2 map) × (isSome (s .«regulation_down») ≡ stands 3 map) × (isSome (s .spinning) ≡ stands 4 map) × (isSome (s .«non_spinning») ≡ stands 5 map)
 
-services-held : (s : Services) → servicesHeld s ≡ true
+pub services-held : (s : Services) → servicesHeld s ≡ true
     → (optionalHeld serviceHeld (s .«regulation_up») ≡ true) × (optionalHeld serviceHeld (s .«regulation_down») ≡ true) × (optionalHeld serviceHeld (s .spinning) ≡ true) × (optionalHeld serviceHeld (s .«non_spinning») ≡ true)
 services-held s h =
     let h₃ = and-parts _ (optionalHeld serviceHeld (s .«non_spinning»)) h in

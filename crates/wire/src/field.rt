@@ -106,6 +106,15 @@ pub fn rows_standing<T, const N: usize>(counted: &Counted<T, N>) -> usize
     rows.len().min(counted.count as usize)
 }
 
+// The rows that stand.
+pub fn rows_of<T, const N: usize>(counted: &Counted<T, N>) -> &[T]
+    ensures value { λ r. ⌜ now r ≡ entries (now (counted .entry)) ⌝ }
+    ensures bound { λ r. ⌜ length (now r) ≤ N ⌝ }
+{
+    let rows = &counted.rows[..];
+    &rows[0..rows_standing(counted)]
+}
+
 // The count as it stands, and the rows that stand.
 pub fn put_counted<T: Field, const N: usize>(
     counted: &Counted<T, N>,
@@ -116,8 +125,7 @@ pub fn put_counted<T: Field, const N: usize>(
     ensures memory { λ _. ⌜ now (out .exit) ≡ countedPut (T·Field .put) (now (counted .entry)) (now (out .entry)) at .1 ⌝ }
 {
     let next = put_byte(counted.count, out, at)?;
-    let rows = &counted.rows[..];
-    put_rows(&rows[0..rows_standing(counted)], out, next)
+    put_rows(rows_of(counted), out, next)
 }
 
 // A field that stands where its bit does.
