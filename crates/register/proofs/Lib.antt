@@ -1,0 +1,14 @@
+pub mod Entries
+pub mod Packing
+pub mod Rising
+pub mod CardRows
+pub mod LevelLists
+pub mod RaisedLevels
+pub mod Undoes
+pub mod FileRows
+pub mod FileCards
+pub mod FileFields
+pub mod Skipped
+pub mod FileMeaning
+pub mod FilePlaces
+pub mod FileWritten
