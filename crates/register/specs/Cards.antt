@@ -70,20 +70,47 @@ blankCard = record {
 -- a card with another owner, PMin and PMax
 abbrev pub withUnit : Card → ℕ → ℕ → ℕ → Card
 withUnit c o low high = record {
-  owner = o; pmin = low; pmax = high; up = c .up; down = c .down; spinning = c .spinning;
-  «non_spinning» = c .«non_spinning»; «regulation_limit» = c .«regulation_limit»; level = c .level; «start_up» = c .«start_up»; ramp = c .ramp;
+  owner = o;
+  pmin = low;
+  pmax = high;
+  up = c .up;
+  down = c .down;
+  spinning = c .spinning;
+  «non_spinning» = c .«non_spinning»;
+  «regulation_limit» = c .«regulation_limit»;
+  level = c .level;
+  «start_up» = c .«start_up»;
+  ramp = c .ramp;
 }
 
 -- a card with other certified quantities and awards
 abbrev pub withServices : Card → Regulation → Regulation → ℕ → ℕ → Card
 withServices c u w s n = record {
-  owner = c .owner; pmin = c .pmin; pmax = c .pmax; up = u; down = w; spinning = s;
-  «non_spinning» = n; «regulation_limit» = c .«regulation_limit»; level = c .level; «start_up» = c .«start_up»; ramp = c .ramp;
+  owner = c .owner;
+  pmin = c .pmin;
+  pmax = c .pmax;
+  up = u;
+  down = w;
+  spinning = s;
+  «non_spinning» = n;
+  «regulation_limit» = c .«regulation_limit»;
+  level = c .level;
+  «start_up» = c .«start_up»;
+  ramp = c .ramp;
 }
 
 -- a card with another regulation limit and level
 abbrev pub withLimit : Card → ℕ → ℤ → Card
 withLimit c l z = record {
-  owner = c .owner; pmin = c .pmin; pmax = c .pmax; up = c .up; down = c .down; spinning = c .spinning;
-  «non_spinning» = c .«non_spinning»; «regulation_limit» = l; level = z; «start_up» = c .«start_up»; ramp = c .ramp;
+  owner = c .owner;
+  pmin = c .pmin;
+  pmax = c .pmax;
+  up = c .up;
+  down = c .down;
+  spinning = c .spinning;
+  «non_spinning» = c .«non_spinning»;
+  «regulation_limit» = l;
+  level = z;
+  «start_up» = c .«start_up»;
+  ramp = c .ramp;
 }

@@ -104,18 +104,48 @@ pub fn impossible_bid() -> Components {
 
 // All of PMax as a self-schedule.
 pub fn full_bid() -> Components {
-    Components { resource: 7, hour: 9, self_schedule: Some(10_000), curve: None, services: NO_SERVICES, start_up: None, ramp: None }
+    Components {
+        resource: 7,
+        hour: 9,
+        self_schedule: Some(10_000),
+        curve: None,
+        services: NO_SERVICES,
+        start_up: None,
+        ramp: None,
+    }
 }
 
 // One step at a price above the resource's level.
 pub fn dear_bid() -> Components {
     let mut rows = [NO_STEP; 10];
-    rows[0] = Step { end: 10_000, price: 135_000 };
-    let curve = Curve { start: 2_000, steps: Counted { count: 1, rows } };
-    Components { resource: 7, hour: 10, self_schedule: None, curve: Some(curve), services: NO_SERVICES, start_up: None, ramp: None }
+    rows[0] = Step {
+        end: 10_000,
+        price: 135_000,
+    };
+    let curve = Curve {
+        start: 2_000,
+        steps: Counted { count: 1, rows },
+    };
+    Components {
+        resource: 7,
+        hour: 10,
+        self_schedule: None,
+        curve: Some(curve),
+        services: NO_SERVICES,
+        start_up: None,
+        ramp: None,
+    }
 }
 
 // A self-schedule a hundredth of a MW below PMin.
 pub fn low_bid() -> Components {
-    Components { resource: 7, hour: 11, self_schedule: Some(1_999), curve: None, services: NO_SERVICES, start_up: None, ramp: None }
+    Components {
+        resource: 7,
+        hour: 11,
+        self_schedule: Some(1_999),
+        curve: None,
+        services: NO_SERVICES,
+        start_up: None,
+        ramp: None,
+    }
 }

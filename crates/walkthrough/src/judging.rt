@@ -6,6 +6,7 @@ use bid::Bid;
 use bid::Components;
 use register::RegisterFile;
 use register::RegisterFileRegister;
+use rules::Judged;
 use rules::judge_bid;
 use std::error::AnyError;
 use words::tell_bid;
@@ -24,13 +25,50 @@ fn tell_mark(rt: &LibcRuntime, marks: u16, bit: u16, words: &str) -> Result<(), 
 fn tell_marks(rt: &LibcRuntime, marks: u16) -> Result<(), AnyError> {
     tell_mark(rt, marks, 1, "a price above the ceiling became the ceiling")?;
     tell_mark(rt, marks, 2, "the curve was extended to carry the reserves")?;
-    tell_mark(rt, marks, 4, "Spinning was erased, as no energy is offered with it")?;
-    tell_mark(rt, marks, 8, "Non-Spinning was erased, as no energy is offered with it")?;
-    tell_mark(rt, marks, 16, "Regulation Up was set to what is free of its award")?;
-    tell_mark(rt, marks, 32, "Regulation Down was set to what is free of its award")
+    tell_mark(
+        rt,
+        marks,
+        4,
+        "Spinning was erased, as no energy is offered with it",
+    )?;
+    tell_mark(
+        rt,
+        marks,
+        8,
+        "Non-Spinning was erased, as no energy is offered with it",
+    )?;
+    tell_mark(
+        rt,
+        marks,
+        16,
+        "Regulation Up was set to what is free of its award",
+    )?;
+    tell_mark(
+        rt,
+        marks,
+        32,
+        "Regulation Down was set to what is free of its award",
+    )
 }
 
-fn tell_judged(rt: &LibcRuntime, register: &RegisterFile, filed: &Components) -> Result<(), AnyError> {
+fn tell_granted(rt: &LibcRuntime, judged: &Judged) -> Result<(), AnyError> {
+    let marks = judged.marks;
+    if marks == 0 {
+        println!(rt, "  granted as filed")?;
+        return Ok(());
+    }
+    println!(rt, "  granted, mended with marks {marks}:")?;
+    tell_marks(rt, marks)?;
+    println!(rt, "  the row that goes to the planner:")?;
+    tell_bid(rt, &judged.row)?;
+    Ok(())
+}
+
+fn tell_judged(
+    rt: &LibcRuntime,
+    register: &RegisterFile,
+    filed: &Components,
+) -> Result<(), AnyError> {
     println!(rt, "Coordinator {COORDINATOR} files:")?;
     let bid = match Bid::make(filed) {
         Ok(bid) => bid,
@@ -38,17 +76,9 @@ fn tell_judged(rt: &LibcRuntime, register: &RegisterFile, filed: &Components) ->
     };
     tell_bid(rt, &bid)?;
     match judge_bid(register, COORDINATOR, &bid) {
-        Ok(judged) if judged.marks == 0 => println!(rt, "  granted as filed")?,
-        Ok(judged) => {
-            let marks = judged.marks;
-            println!(rt, "  granted, mended with marks {marks}:")?;
-            tell_marks(rt, marks)?;
-            println!(rt, "  the row that goes to the planner:")?;
-            tell_bid(rt, &judged.row)?;
-        }
-        Err(fault) => tell_denial(rt, fault)?,
+        Ok(judged) => tell_granted(rt, &judged),
+        Err(fault) => tell_denial(rt, fault),
     }
-    Ok(())
 }
 
 pub fn tell(rt: &LibcRuntime) -> Result<(), AnyError> {

@@ -57,7 +57,10 @@ pub fn tell(rt: &LibcRuntime) -> Result<(), AnyError> {
         }
         Err(fault) => tell_denial(rt, fault)?,
     }
-    println!(rt, "A bid with a quantity that no plant has is not even made into a record.")?;
+    println!(
+        rt,
+        "A bid with a quantity that no plant has is not even made into a record."
+    )?;
     match Bid::make(&desk::impossible_bid()) {
         Ok(bid) => tell_bid(rt, &bid)?,
         Err(fault) => tell_denial(rt, fault)?,

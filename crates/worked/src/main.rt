@@ -16,7 +16,12 @@ pub struct Verdict {
 }
 
 // Prints an example, and tells whether it came out as expected.
-pub fn compare(rt: &LibcRuntime, example: &str, expected: Verdict, found: Verdict) -> Result<bool, AnyError> {
+pub fn compare(
+    rt: &LibcRuntime,
+    example: &str,
+    expected: Verdict,
+    found: Verdict,
+) -> Result<bool, AnyError> {
     let agrees = expected == found;
     let word = if agrees { "agrees" } else { "DIFFERS" };
     println!(rt, "{example}: {word}")?;
@@ -31,7 +36,10 @@ fn tell(rt: &LibcRuntime, which: &str, verdict: Verdict) -> Result<(), AnyError>
     let place = verdict.place;
     let marks = verdict.marks;
     let length = verdict.length;
-    println!(rt, "  {which}: number {number}, layer {layer}, place {place}, marks {marks}, length {length}")?;
+    println!(
+        rt,
+        "  {which}: number {number}, layer {layer}, place {place}, marks {marks}, length {length}"
+    )?;
     Ok(())
 }
 

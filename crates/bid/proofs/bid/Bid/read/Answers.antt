@@ -1,4 +1,5 @@
 use mathlib.Core.Path.{_≡_, sym, ap, _∙_}
+use native.Mathlib.Omega.{arith}
 use lib.Dec.{ltb}
 use lib.ListN.{length}
 use Rattle.std.proofs.shelf.Results.{err-from-errBy}
@@ -34,7 +35,7 @@ returns-then-next-bytes c =
     let next = c .in-Continue-components .next in
     let r : Result Bid Fault = Err (Record BytesLeftOver (c .place .result)) in
     let e : told r ≡ recordRead bytes =
-    ap (λ p. Err (Record BytesLeftOver p)) (c .place .ensures) ∙ sym (cond-true (ltb next (length bytes)) _ _ (lt-ltb next (length bytes) (c .if-next-bytes .taken))) ∙ ap (λ r. andThen r (end bytes)) (c .in-Continue-components .ensures tt) in
+    ap (λ p. Err (Record BytesLeftOver p)) (c .place .ensures) ∙ sym (cond-true (ltb next (length bytes)) _ _ (lt-ltb next (length bytes) (omega arith))) ∙ ap (λ r. andThen r (end bytes)) (c .in-Continue-components .ensures tt) in
     record { value = e; exact = reads-records bytes all; left = tells-bytes-left bytes all; placed = told-place bytes r all e }
 
 pub ghost-result : need.ghost-result
@@ -47,7 +48,7 @@ returns c =
     let all = lent-bytes bytes (c .typed .bytes) in
     let next = c .in-Continue-components .next in
     record {
-      value = sym (cond-false (ltb next (length bytes)) _ _ (le-ltb next (length bytes) (c .if-next-bytes .left))) ∙ ap (λ r. andThen r (end bytes)) (c .in-Continue-components .ensures tt);
+      value = sym (cond-false (ltb next (length bytes)) _ _ (le-ltb next (length bytes) (omega arith))) ∙ ap (λ r. andThen r (end bytes)) (c .in-Continue-components .ensures tt);
       exact = reads-records bytes all;
       left = tells-bytes-left bytes all;
       placed = search needs;
