@@ -29,6 +29,3 @@ pub use raised::RaisedRegister;
 pub use register::Register;
 pub use row::CardRow;
 pub use row_register::CardRowRegister;
-
-#[cfg(test)]
-mod tests;

@@ -1,15 +1,15 @@
 // Each kind of register is opened, looked at and layered.
-use crate::CardRow;
-use crate::CardRowRegister;
-use crate::Raised;
-use crate::RaisedRegister;
-use crate::Register;
-use crate::RegisterFile;
-use crate::RegisterFileRegister;
-use crate::data::Card;
-use crate::data::Day;
-use crate::data::NumberedCard;
 use faults::FaultDebug;
+use register::Card;
+use register::CardRow;
+use register::CardRowRegister;
+use register::Day;
+use register::NumberedCard;
+use register::Raised;
+use register::RaisedRegister;
+use register::Register;
+use register::RegisterFile;
+use register::RegisterFileRegister;
 use std::test::*;
 
 fn day() -> Day {

@@ -1,0 +1,3 @@
+// Tests of the three kinds of register.
+#[cfg(test)]
+mod registers;
