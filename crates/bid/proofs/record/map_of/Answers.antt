@@ -8,12 +8,12 @@ bit false = refl
 
 pub returns : goal.returns
 returns c =
-    let b₀ = ap bool_byte c.is-some.ensures ∙ bit _ in
-    let b₁ = ap bool_byte c.is-some-2.ensures ∙ bit _ in
-    let b₂ = ap bool_byte c.is-some-3.ensures ∙ bit _ in
-    let b₃ = ap bool_byte c.is-some-4.ensures ∙ bit _ in
-    let b₄ = ap bool_byte c.is-some-5.ensures ∙ bit _ in
-    let b₅ = ap bool_byte c.is-some-6.ensures ∙ bit _ in
-    let b₆ = ap bool_byte c.is-some-7.ensures ∙ bit _ in
-    let b₇ = ap bool_byte c.is-some-8.ensures ∙ bit _ in
+    let b₀ = ap bool_byte c.is_some.ensures ∙ bit _ in
+    let b₁ = ap bool_byte c.is_some-2.ensures ∙ bit _ in
+    let b₂ = ap bool_byte c.is_some-3.ensures ∙ bit _ in
+    let b₃ = ap bool_byte c.is_some-4.ensures ∙ bit _ in
+    let b₄ = ap bool_byte c.is_some-5.ensures ∙ bit _ in
+    let b₅ = ap bool_byte c.is_some-6.ensures ∙ bit _ in
+    let b₆ = ap bool_byte c.is_some-7.ensures ∙ bit _ in
+    let b₇ = ap bool_byte c.is_some-8.ensures ∙ bit _ in
     omega arith

@@ -5,9 +5,9 @@ use Rattle.checks.specs.Checks.{first_broken, row_check, row_checks}
 use Rattle.checks.proofs.Broken.{turn_passed, turn_failed}
 use Rattle.checks.proofs.pairs.check_rows.Goals as goal
 
-pub returns-in-err-check-row : goal.returns-in-err-check-row
-returns-in-err-check-row c =
-    let p = err_from_is_err_and c.from-residual.result c.from-residual.ensures.1 in
+pub returns-in_err-check_row : goal.returns-in_err-check_row
+returns-in_err-check_row c =
+    let p = err_from_is_err_and c.from_residual.result c.from_residual.ensures.1 in
     let i = c.loop-i.i in
     let pairs = c.args.pairs.now in
     let limits = c.args.limits.now in
@@ -16,7 +16,7 @@ returns-in-err-check-row c =
     let lt : i < length pairs = omega arith in
     let within : i < length limits = omega (arith, c.requires.alike) in
     p.1 ∙ ap Err p.2
-    ∙ turn_failed pairs i (record { level = 0; rate = 0 }) lt (λ ps. row_checks (i + 1) ps (drop i limits)) (row_check (i + 1) x l) (λ ps. row_checks (i + 1 + 1) ps (drop (i + 1) limits)) (ap (row_checks (i + 1) (x ∷ drop (i + 1) pairs)) (drop_more limits i (record { level = 0; lowest = 0; highest = 0 }) within)) _ c.in-err-check-row.ensures
+    ∙ turn_failed pairs i (record { level = 0; rate = 0 }) lt (λ ps. row_checks (i + 1) ps (drop i limits)) (row_check (i + 1) x l) (λ ps. row_checks (i + 1 + 1) ps (drop (i + 1) limits)) (ap (row_checks (i + 1) (x ∷ drop (i + 1) pairs)) (drop_more limits i (record { level = 0; lowest = 0; highest = 0 }) within)) _ c.in_err-check_row.ensures
     ∙ c.loop-i.invariant
 
 pub loop-i-preserved : goal.loop-i-preserved
@@ -28,7 +28,7 @@ loop-i-preserved c =
     let l = get_or limits i (record { level = 0; lowest = 0; highest = 0 }) in
     let lt : i < length pairs = omega arith in
     let within : i < length limits = omega (arith, c.requires.alike) in
-    turn_passed pairs i (record { level = 0; rate = 0 }) lt (λ ps. row_checks (i + 1) ps (drop i limits)) (row_check (i + 1) x l) (λ ps. row_checks (i + 1 + 1) ps (drop (i + 1) limits)) (ap (row_checks (i + 1) (x ∷ drop (i + 1) pairs)) (drop_more limits i (record { level = 0; lowest = 0; highest = 0 }) within)) c.in-ok-check-row.ensures
+    turn_passed pairs i (record { level = 0; rate = 0 }) lt (λ ps. row_checks (i + 1) ps (drop i limits)) (row_check (i + 1) x l) (λ ps. row_checks (i + 1 + 1) ps (drop (i + 1) limits)) (ap (row_checks (i + 1) (x ∷ drop (i + 1) pairs)) (drop_more limits i (record { level = 0; lowest = 0; highest = 0 }) within)) c.in_ok-check_row.ensures
     ∙ c.loop-i.invariant
 
 pub returns : goal.returns

@@ -15,9 +15,9 @@ loop-i-preserved c =
     let inside : i < length c.loop-i.rows = omega arith in (
       length-set _ _ _ ∙ c.loop-i.invariant.0,
       blank_more blank_step step_at 10 c.loop-i.rows i _ inside c.loop-i.invariant.1,
-      take_more_set c.loop-i.rows i c.capped-step.result inside
-          ∙ ap (λ l. l ++ c.capped-step.result ∷ []) c.loop-i.invariant.2
-          ∙ ap (λ s. map (capped_step (to_z w32 (of_z w32 c.args.limit))) (take i steps) ++ s ∷ []) c.capped-step.ensures
+      take_more_set c.loop-i.rows i c.capped_step.result inside
+          ∙ ap (λ l. l ++ c.capped_step.result ∷ []) c.loop-i.invariant.2
+          ∙ ap (λ s. map (capped_step (to_z w32 (of_z w32 c.args.limit))) (take i steps) ++ s ∷ []) c.capped_step.ensures
           ∙ sym (map_more (capped_step (to_z w32 (of_z w32 c.args.limit))) steps i blank_step lt),
     )
 

@@ -5,8 +5,8 @@ use Rattle.checks.specs.Terms.{end_of}
 use Rattle.mending.proofs.Steps.{end_last}
 use Rattle.mending.proofs.curves.end_of.Goals as goal
 
-pub returns-then-is-empty : goal.returns-then-is-empty
-returns-then-is-empty c = sym (ap (end_of c.args.start) (nil_from_length c.args.steps.now (eqb-true (length c.args.steps.now) 0 (sym c.is-empty.ensures ∙ c.if-is-empty.true))))
+pub returns-then-is_empty : goal.returns-then-is_empty
+returns-then-is_empty c = sym (ap (end_of c.args.start) (nil_from_length c.args.steps.now (eqb-true (length c.args.steps.now) 0 (sym c.is_empty.ensures ∙ c.if-is_empty.true))))
 
-pub returns-else-is-empty : goal.returns-else-is-empty
-returns-else-is-empty c = (let some = eqb-false (length c.args.steps.now) 0 (sym c.is-empty.ensures ∙ c.if-is-empty.false) in end_last c.args.start c.args.steps.now (omega arith))
+pub returns-else-is_empty : goal.returns-else-is_empty
+returns-else-is_empty c = (let some = eqb-false (length c.args.steps.now) 0 (sym c.is_empty.ensures ∙ c.if-is_empty.false) in end_last c.args.start c.args.steps.now (omega arith))

@@ -14,15 +14,15 @@ reached-requires c = record {
   bound = c.need.ensures.bound;
 }
 
-pub returns-in-err-curve : goal.returns-in-err-curve
+pub returns-in_err-curve : goal.returns-in_err-curve
 unfolding mended
-returns-in-err-curve c =
-    let p = err_from_is_err_and c.from-residual.result c.from-residual.ensures.1 in
+returns-in_err-curve c =
+    let p = err_from_is_err_and c.from_residual.result c.from_residual.ensures.1 in
     let d = c.args.day.now in
     let k = c.args.card.now in
     let b = c.args.bid.now.components in
     p.1 ∙ ap Err p.2
-    ∙ ap (row_made b (mended_services k b)) (c.in-err-curve.ensures ∙ joined d k b _ _ _ _ _ _ c.mended-services-services.result _ c.base.ensures c.mended-services-services.ensures c.need.ensures.value (to_z-of_z w32 c.extension-price.result (record { sfits = c.extension-price.type-inv })) c.extension-price.ensures (to_z-of_z w32 c.ceiling.result (record { sfits = c.ceiling.type-inv })) c.ceiling.ensures c.capped-curve.ensures)
+    ∙ ap (row_made b (mended_services k b)) (c.in_err-curve.ensures ∙ joined d k b _ _ _ _ _ _ c.mended_services-services.result _ c.base.ensures c.mended_services-services.ensures c.need.ensures.value (to_z-of_z w32 c.extension_price.result (record { sfits = c.extension_price.type-inv })) c.extension_price.ensures (to_z-of_z w32 c.ceiling.result (record { sfits = c.ceiling.type-inv })) c.ceiling.ensures c.capped-curve.ensures)
 
 pub returns : goal.returns
 unfolding mended
@@ -30,5 +30,5 @@ returns c =
     let d = c.args.day.now in
     let k = c.args.card.now in
     let b = c.args.bid.now.components in
-    ap (λ s. Ok (remade b s c.in-ok-curve.curve)) c.mended-services-services.ensures
-    ∙ ap (row_made b (mended_services k b)) (c.in-ok-curve.ensures ∙ joined d k b _ _ _ _ _ _ c.mended-services-services.result _ c.base.ensures c.mended-services-services.ensures c.need.ensures.value (to_z-of_z w32 c.extension-price.result (record { sfits = c.extension-price.type-inv })) c.extension-price.ensures (to_z-of_z w32 c.ceiling.result (record { sfits = c.ceiling.type-inv })) c.ceiling.ensures c.capped-curve.ensures)
+    ap (λ s. Ok (remade b s c.in_ok-curve.curve)) c.mended_services-services.ensures
+    ∙ ap (row_made b (mended_services k b)) (c.in_ok-curve.ensures ∙ joined d k b _ _ _ _ _ _ c.mended_services-services.result _ c.base.ensures c.mended_services-services.ensures c.need.ensures.value (to_z-of_z w32 c.extension_price.result (record { sfits = c.extension_price.type-inv })) c.extension_price.ensures (to_z-of_z w32 c.ceiling.result (record { sfits = c.ceiling.type-inv })) c.ceiling.ensures c.capped-curve.ensures)

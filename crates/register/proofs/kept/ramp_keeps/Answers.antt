@@ -16,7 +16,7 @@ returns-then-row-before c =
     let rest = drop (i + 1) xs in
     let fails : rows_behind c.args.pmax b (r ∷ rest) ≡ false = elim c.then-row-before.branch [
       | then-row-before-via-then-row-before w ↦ rows_fail c.args.pmax b r rest (inr (le-ltb b.level r.level w.if-row-before.true))
-      | then-row-before-via-else-row-before+then-not-row-keeps-2 w ↦ rows_fail c.args.pmax b r rest (inl (sym w.if-not-row-keeps-2.ensures))
+      | then-row-before-via-else-row-before+then-not-row-keeps-2 w ↦ rows_fail c.args.pmax b r rest (inl (sym w.if-not-row_keeps-2.ensures))
     ] in
     sym (sym c.loop-i.invariant ∙ at_drop_more (rows_behind c.args.pmax b) xs i blank_limits c.loop-i-test.true ∙ fails)
 
@@ -26,7 +26,7 @@ loop-i-preserved c =
     let i = c.loop-i.i in
     let b = c.loop-i.before in
     let r : RampLimits = get_or xs i blank_limits in
-    sym (at_drop_more (rows_behind c.args.pmax b) xs i blank_limits c.loop-i-test.true ∙ rows_more c.args.pmax b r (drop (i + 1) xs) (sym c.if-not-row-keeps-2.ensures) (lt-ltb b.level r.level c.if-row-before.false))
+    sym (at_drop_more (rows_behind c.args.pmax b) xs i blank_limits c.loop-i-test.true ∙ rows_more c.args.pmax b r (drop (i + 1) xs) (sym c.if-not-row_keeps-2.ensures) (lt-ltb b.level r.level c.if-row-before.false))
     ∙ c.loop-i.invariant
 
 pub returns : goal.returns

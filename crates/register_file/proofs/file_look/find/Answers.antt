@@ -13,21 +13,21 @@ loop-i-init c =
       ap (λ k. find_at c.args.resource k bytes c.args.at) (sub-zero c.args.count),
     )
 
-pub after-card-next-requires : goal.after-card-next-requires
-after-card-next-requires c =
+pub after_card-next-requires : goal.after_card-next-requires
+after_card-next-requires c =
     let bytes = c.args.bytes.now in
     (next_stands bytes (lent_bytes bytes c.type-inv.bytes) c.args.count c.loop-i.-i c.loop-i-test.true c.loop-i.next (c.loop-i.-i + 1) c.loop-i.invariant.0.0 c.loop-i.invariant.0.1).0
 
 pub returns-then-number-resource : goal.returns-then-number-resource
 returns-then-number-resource c =
     let bytes = c.args.bytes.now in
-    sym (search_here bytes (lent_bytes bytes c.type-inv.bytes) c.args.count c.loop-i.-i c.loop-i-test.true c.loop-i.next c.args.resource c.word-or-zero-number.result c.word-or-zero-number.ensures c.if-number-resource.true)
+    sym (search_here bytes (lent_bytes bytes c.type-inv.bytes) c.args.count c.loop-i.-i c.loop-i-test.true c.loop-i.next c.args.resource c.word_or_zero-number.result c.word_or_zero-number.ensures c.if-number-resource.true)
     ∙ c.loop-i.invariant.1
 
 pub returns-then-number-resource-2 : goal.returns-then-number-resource-2
 returns-then-number-resource-2 c =
     let bytes = c.args.bytes.now in
-    sym (search_past bytes (lent_bytes bytes c.type-inv.bytes) c.args.count c.loop-i.-i c.loop-i-test.true c.loop-i.next c.args.resource c.word-or-zero-number.result c.word-or-zero-number.ensures c.if-number-resource-2.true)
+    sym (search_past bytes (lent_bytes bytes c.type-inv.bytes) c.args.count c.loop-i.-i c.loop-i-test.true c.loop-i.next c.args.resource c.word_or_zero-number.result c.word_or_zero-number.ensures c.if-number-resource-2.true)
     ∙ c.loop-i.invariant.1
 
 pub loop-i-preserved : goal.loop-i-preserved
@@ -36,12 +36,12 @@ loop-i-preserved c =
     let all = lent_bytes bytes c.type-inv.bytes in
     let i = c.loop-i.-i in
     let n = c.args.resource in
-    let number = c.word-or-zero-number.result in
+    let number = c.word_or_zero-number.result in
     let lower : number < n = omega arith in
     let more = (next_stands bytes all c.args.count i c.loop-i-test.true c.loop-i.next (i + 1) c.loop-i.invariant.0.0 c.loop-i.invariant.0.1).1 in
-    let to = c.after-card-next.ensures.value in (
+    let to = c.after_card-next.ensures.value in (
       (more.0, ap (λ p. is_ok (cards_at (c.args.count - (i + 1)) (i + 1 + 1) more.0 bytes p)) to ∙ more.1),
-      ap (find_at n (c.args.count - (i + 1)) bytes) to ∙ sym (search_more bytes all c.args.count i c.loop-i-test.true c.loop-i.next n number c.word-or-zero-number.ensures lower) ∙ c.loop-i.invariant.1,
+      ap (find_at n (c.args.count - (i + 1)) bytes) to ∙ sym (search_more bytes all c.args.count i c.loop-i-test.true c.loop-i.next n number c.word_or_zero-number.ensures lower) ∙ c.loop-i.invariant.1,
     )
 
 pub returns : goal.returns

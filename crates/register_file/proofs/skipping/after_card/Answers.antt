@@ -7,7 +7,7 @@ pub overflow-add-rows : goal.overflow-add-rows
 overflow-add-rows c =
     let bytes = c.args.bytes.now in
     let at = c.args.at in
-    let is = to_rows bytes at c.word-or-zero-map.result c.fixed-length.result c.rows-length.result c.word-or-zero-map.ensures c.fixed-length.ensures.value c.rows-length.ensures in
+    let is = to_rows bytes at c.word_or_zero-map.result c.fixed_length.result c.rows_length.result c.word_or_zero-map.ensures c.fixed_length.ensures.value c.rows_length.ensures in
     let most : rows_place bytes at ≤ after_card bytes at = omega arith in
     omega (arith, (skips bytes at (lent_bytes bytes c.type-inv.bytes) c.requires).1)
 
@@ -15,12 +15,12 @@ pub overflow-add-result : goal.overflow-add-result
 overflow-add-result c =
     let bytes = c.args.bytes.now in
     let at = c.args.at in
-    let is = to_end bytes at c.word-or-zero-map.result c.fixed-length.result c.rows-length.result c.word-or-zero-map.ensures c.fixed-length.ensures.value c.rows-length.ensures c.rows-length-2.result c.rows-length-2.ensures in
+    let is = to_end bytes at c.word_or_zero-map.result c.fixed_length.result c.rows_length.result c.word_or_zero-map.ensures c.fixed_length.ensures.value c.rows_length.ensures c.rows_length-2.result c.rows_length-2.ensures in
     omega (arith, (skips bytes at (lent_bytes bytes c.type-inv.bytes) c.requires).1)
 
 pub returns : goal.returns
 returns c =
     let bytes = c.args.bytes.now in
     let at = c.args.at in
-    let is = to_end bytes at c.word-or-zero-map.result c.fixed-length.result c.rows-length.result c.word-or-zero-map.ensures c.fixed-length.ensures.value c.rows-length.ensures c.rows-length-2.result c.rows-length-2.ensures in
+    let is = to_end bytes at c.word_or_zero-map.result c.fixed_length.result c.rows_length.result c.word_or_zero-map.ensures c.fixed_length.ensures.value c.rows_length.ensures c.rows_length-2.result c.rows_length-2.ensures in
     record { end = (skips bytes at (lent_bytes bytes c.type-inv.bytes) c.requires).0 ∙ ap Ok (sym is); value = is }

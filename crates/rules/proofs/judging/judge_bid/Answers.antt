@@ -19,7 +19,7 @@ pub returns : goal.returns
 returns g c =
     let b = c.args.bid.now.components in
     record {
-      value = c.rule-bid.ensures;
+      value = c.rule_bid.ensures;
       exactly = exactly_then c.args.coordinator (g.R.Register.meaning c.args.register.now) b c.args.bid.now.kept;
-      granted = granted-made c.args.coordinator (g.R.Register.meaning c.args.register.now) b c.args.bid.now.kept c.rule-bid.result c.rule-bid.ensures;
+      granted = granted-made c.args.coordinator (g.R.Register.meaning c.args.register.now) b c.args.bid.now.kept c.rule_bid.result c.rule_bid.ensures;
     }

@@ -9,32 +9,32 @@ use Rattle.rules.proofs.judging.rule_bid.Goals as goal
 pub returns-then-not-look : goal.returns-then-not-look
 returns-then-not-look g c = ruled_none c.args.coordinator (g.R.Register.meaning c.args.register.now) c.args.bid.now.components (sym c.look.ensures.answer ∙ c.if-not-look.true)
 
-pub returns-in-err-check : goal.returns-in-err-check
-returns-in-err-check g c =
+pub returns-in_err-check : goal.returns-in_err-check
+returns-in_err-check g c =
     let m = g.R.Register.meaning c.args.register.now in
     let b = c.args.bid.now.components in
-    let p = err_from_is_err_and c.from-residual.result c.from-residual.ensures.1 in
+    let p = err_from_is_err_and c.from_residual.result c.from_residual.ensures.1 in
     let card = found _ c.look.new.card (m.cards b.resource) (sym c.look.ensures.answer ∙ c.if-not-look.false) c.look.ensures.filled in
-    ap told (p.1 ∙ ap Err p.2) ∙ ap (λ x. marked b (after_checks x (mended c.day-day.result c.look.new.card b))) c.in-err-check.ensures ∙ ap (marked b) (ruled_card c.args.coordinator m b c.day-day.result c.look.new.card card c.day-day.ensures.value)
+    ap told (p.1 ∙ ap Err p.2) ∙ ap (λ x. marked b (after_checks x (mended c.day-day.result c.look.new.card b))) c.in_err-check.ensures ∙ ap (marked b) (ruled_card c.args.coordinator m b c.day-day.result c.look.new.card card c.day-day.ensures.value)
 
-pub returns-in-err-components : goal.returns-in-err-components
-returns-in-err-components g c =
+pub returns-in_err-components : goal.returns-in_err-components
+returns-in_err-components g c =
     let m = g.R.Register.meaning c.args.register.now in
     let b = c.args.bid.now.components in
-    let p = err_from_is_err_and c.from-residual-in-err-components.result c.from-residual-in-err-components.ensures.1 in
+    let p = err_from_is_err_and c.from_residual-in_err-components.result c.from_residual-in_err-components.ensures.1 in
     let card = found _ c.look.new.card (m.cards b.resource) (sym c.look.ensures.answer ∙ c.if-not-look.false) c.look.ensures.filled in
-    ap told (p.1 ∙ ap Err p.2) ∙ ap (marked b) c.in-err-components.ensures ∙ ap (λ x. marked b (after_checks x (mended c.day-day.result c.look.new.card b))) c.in-ok-check.ensures ∙ ap (marked b) (ruled_card c.args.coordinator m b c.day-day.result c.look.new.card card c.day-day.ensures.value)
+    ap told (p.1 ∙ ap Err p.2) ∙ ap (marked b) c.in_err-components.ensures ∙ ap (λ x. marked b (after_checks x (mended c.day-day.result c.look.new.card b))) c.in_ok-check.ensures ∙ ap (marked b) (ruled_card c.args.coordinator m b c.day-day.result c.look.new.card card c.day-day.ensures.value)
 
 pub invariant-of-result : goal.invariant-of-result
 invariant-of-result g c =
     let m = g.R.Register.meaning c.args.register.now in
     let b = c.args.bid.now.components in
     let card = found _ c.look.new.card (m.cards b.resource) (sym c.look.ensures.answer ∙ c.if-not-look.false) c.look.ensures.filled in
-    (judged_kept m b c.day-day.result c.look.new.card c.in-ok-components.components c.day-day.ensures.keeps card c.day-day.ensures.value c.args.bid.now.kept (sym c.in-ok-components.ensures), tt)
+    (judged_kept m b c.day-day.result c.look.new.card c.in_ok-components.components c.day-day.ensures.keeps card c.day-day.ensures.value c.args.bid.now.kept (sym c.in_ok-components.ensures), tt)
 
 pub returns : goal.returns
 returns g c =
     let m = g.R.Register.meaning c.args.register.now in
     let b = c.args.bid.now.components in
     let card = found _ c.look.new.card (m.cards b.resource) (sym c.look.ensures.answer ∙ c.if-not-look.false) c.look.ensures.filled in
-    ap (λ k. Ok (c.in-ok-components.components, k)) c.marks-marks.ensures ∙ ap (marked b) c.in-ok-components.ensures ∙ ap (λ x. marked b (after_checks x (mended c.day-day.result c.look.new.card b))) c.in-ok-check.ensures ∙ ap (marked b) (ruled_card c.args.coordinator m b c.day-day.result c.look.new.card card c.day-day.ensures.value)
+    ap (λ k. Ok (c.in_ok-components.components, k)) c.marks-marks.ensures ∙ ap (marked b) c.in_ok-components.ensures ∙ ap (λ x. marked b (after_checks x (mended c.day-day.result c.look.new.card b))) c.in_ok-check.ensures ∙ ap (marked b) (ruled_card c.args.coordinator m b c.day-day.result c.look.new.card card c.day-day.ensures.value)

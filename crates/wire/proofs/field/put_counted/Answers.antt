@@ -8,5 +8,5 @@ use Rattle.wire.proofs.field.put_counted.Goals as goal
 pub returns : goal.returns
 returns g c =
     let v = c.args.counted.now in
-    let whole = ap (λ l. rows_put g.T.Field.put l c.put-byte.new.out c.in-ok-next.next) c.rows-of.ensures.value ∙ then_ok (put_at (byte_bytes v.count) c.args.out.now c.args.at) (rows_put g.T.Field.put (entries v)) c.in-ok-next.next c.put-byte.new.out c.in-ok-next.ensures.answer c.put-byte.ensures.memory in
-    record { answer = c.put-rows.ensures.answer ∙ ap (λ w. w.0) whole; memory = c.put-rows.ensures.memory ∙ ap (λ w. w.1) whole }
+    let whole = ap (λ l. rows_put g.T.Field.put l c.put_byte.new.out c.in_ok-next.next) c.rows_of.ensures.value ∙ then_ok (put_at (byte_bytes v.count) c.args.out.now c.args.at) (rows_put g.T.Field.put (entries v)) c.in_ok-next.next c.put_byte.new.out c.in_ok-next.ensures.answer c.put_byte.ensures.memory in
+    record { answer = c.put_rows.ensures.answer ∙ ap (λ w. w.0) whole; memory = c.put_rows.ensures.memory ∙ ap (λ w. w.1) whole }

@@ -14,20 +14,20 @@ loop-i-init g c = (
   ap (λ k. packed_at g.T.Row.blank g.T.Field.parsed g.row.N k [] c.args.bytes.now c.args.at) (sub-zero _),
 )
 
-pub returns-in-err-row : goal.returns-in-err-row
-returns-in-err-row g c =
-    let p = err_from_is_err_and c.from-residual.result c.from-residual.ensures.1 in
+pub returns-in_err-row : goal.returns-in_err-row
+returns-in_err-row g c =
+    let p = err_from_is_err_and c.from_residual.result c.from_residual.ensures.1 in
     let lt : c.loop-i.i < c.args.count = omega arith in
-    p.1 ∙ ap Err p.2 ∙ sym (row_fails _ _ _ c.args.count c.loop-i.i lt (take c.loop-i.i c.loop-i.rows) _ _ _ (sym c.in-err-row.ensures)) ∙ c.loop-i.invariant.2
+    p.1 ∙ ap Err p.2 ∙ sym (row_fails _ _ _ c.args.count c.loop-i.i lt (take c.loop-i.i c.loop-i.rows) _ _ _ (sym c.in_err-row.ensures)) ∙ c.loop-i.invariant.2
 
 pub loop-i-preserved : goal.loop-i-preserved
 loop-i-preserved g c =
     let lt : c.loop-i.i < c.args.count = omega arith in
     let inside : c.loop-i.i < length c.loop-i.rows = omega arith in
-    let read = sym c.in-ok-row.ensures in (
+    let read = sym c.in_ok-row.ensures in (
       length-set _ _ _ ∙ c.loop-i.invariant.0,
       blank_more g.T.Row.blank g.T.Field.parsed g.row.N c.loop-i.rows c.loop-i.i _ inside c.loop-i.invariant.1,
-      ap (λ l. packed_at g.T.Row.blank g.T.Field.parsed g.row.N (c.args.count - (c.loop-i.i + 1)) l c.args.bytes.now c.in-ok-row.after) (take_more_set c.loop-i.rows c.loop-i.i c.in-ok-row.row inside)
+      ap (λ l. packed_at g.T.Row.blank g.T.Field.parsed g.row.N (c.args.count - (c.loop-i.i + 1)) l c.args.bytes.now c.in_ok-row.after) (take_more_set c.loop-i.rows c.loop-i.i c.in_ok-row.row inside)
           ∙ sym (row_more _ _ _ c.args.count c.loop-i.i lt (take c.loop-i.i c.loop-i.rows) _ _ _ _ read) ∙ c.loop-i.invariant.2,
     )
 

@@ -4,5 +4,5 @@ use Rattle.wire.proofs.field.rows_of.Goals as goal
 
 pub returns : goal.returns
 returns g c =
-    let part = take_standing c.args.counted.now.rows c.args.counted.now.count (c.rows-standing.result - 0) (omega arith) in
+    let part = take_standing c.args.counted.now.rows c.args.counted.now.count (c.rows_standing.result - 0) (omega arith) in
     record { value = part; bound = omega (arith, ap length part) }

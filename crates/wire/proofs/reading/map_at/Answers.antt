@@ -11,16 +11,16 @@ use Rattle.wire.proofs.reading.map_at.Goals.{else-last-lt15-via-then-last-lt15+e
 pub returns-then-map-last-ne0 : goal.returns-then-map-last-ne0
 returns-then-map-last-ne0 c =
     ap (λ p. Err (Record UnknownBit p)) c.place.ensures
-    ∙ sym (cond-false (is_map c.args.last c.in-ok-map.map) _ _ (map_unknown c.args.last c.in-ok-map.map c.if-map-last-ne0.true))
-    ∙ sym (then_is (ranged UnknownBit (is_map c.args.last) c.args.at) (sym c.in-ok-map.ensures))
+    ∙ sym (cond-false (is_map c.args.last c.in_ok-map.map) _ _ (map_unknown c.args.last c.in_ok-map.map c.if-map-last-ne0.true))
+    ∙ sym (then_is (ranged UnknownBit (is_map c.args.last) c.args.at) (sym c.in_ok-map.ensures))
 
 pub returns : goal.returns
 returns c =
-    let why : (15 ≤ c.args.last) ⊎ ((c.args.last < 15) × (c.in-ok-map.map / 2 ^ (c.args.last + 1) ≡ 0)) =
+    let why : (15 ≤ c.args.last) ⊎ ((c.args.last < 15) × (c.in_ok-map.map / 2 ^ (c.args.last + 1) ≡ 0)) =
     elim c.else-last-lt15.branch [
       | else-last-lt15-via-then-last-lt15+else-map-last-ne0 w ↦ inr (w.if-last-lt15.true, w.if-map-last-ne0.false)
       | else-last-lt15-via-else-last-lt15 w ↦ inl w.if-last-lt15.false
     ] in
-    let small : c.in-ok-map.map < 65536 = omega arith in
-    sym (cond-true (is_map c.args.last c.in-ok-map.map) _ _ (map_known c.args.last c.in-ok-map.map small why))
-    ∙ sym (then_is (ranged UnknownBit (is_map c.args.last) c.args.at) (sym c.in-ok-map.ensures))
+    let small : c.in_ok-map.map < 65536 = omega arith in
+    sym (cond-true (is_map c.args.last c.in_ok-map.map) _ _ (map_known c.args.last c.in_ok-map.map small why))
+    ∙ sym (then_is (ranged UnknownBit (is_map c.args.last) c.args.at) (sym c.in_ok-map.ensures))

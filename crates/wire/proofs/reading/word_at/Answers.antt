@@ -6,4 +6,4 @@ pub returns : goal.returns
 returns c =
     let room : 2 ≤ length c.args.bytes.now - c.args.at = omega arith in
     let inside : c.args.at + 2 ≤ length c.args.bytes.now = omega arith in
-    number_stands 2 c.args.bytes.now c.args.at _ room (c.from-be-bytes.ensures ∙ two_bytes c.args.bytes.now c.args.at inside)
+    number_stands 2 c.args.bytes.now c.args.at _ room (c.from_be_bytes.ensures ∙ two_bytes c.args.bytes.now c.args.at inside)

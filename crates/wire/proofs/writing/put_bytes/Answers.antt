@@ -11,5 +11,5 @@ returns c =
     let long : at + length bs - at ≡ length bs = omega arith in
     record {
       answer = ap (λ w. w.0) (sym (fits bs out at room));
-      memory = laid_part bs out _ at _ c.copy-from-slice.ensures.after long ∙ ap (λ w. w.1) (sym (fits bs out at room));
+      memory = laid_part bs out _ at _ c.copy_from_slice.ensures.after long ∙ ap (λ w. w.1) (sym (fits bs out at room));
     }

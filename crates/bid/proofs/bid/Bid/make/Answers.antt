@@ -6,20 +6,20 @@ use Rattle.bid.specs.Record.{record_bytes, record_read}
 use Rattle.bid.proofs.Told.{put_front}
 use Rattle.bid.proofs.bid.Bid.make.Goals as goal
 
-pub returns-in-err-put-record : goal.returns-in-err-put-record
-returns-in-err-put-record c =
+pub returns-in_err-put_record : goal.returns-in_err-put_record
+returns-in_err-put_record c =
     let v = c.args.components.now in
     let room : length (record_bytes v) ≤ 178 = omega arith in
     let f = put_front v (replicate 178 0) room in
-    absurd (ok_not_err _ _ (sym (c.in-err-put-record.ensures.answer ∙ ap (λ w. w.0) f)))
+    absurd (ok_not_err _ _ (sym (c.in_err-put_record.ensures.answer ∙ ap (λ w. w.0) f)))
 
 pub slice-bounds-read-end : goal.slice-bounds-read-end
 slice-bounds-read-end c =
     let v = c.args.components.now in
     let room : length (record_bytes v) ≤ 178 = omega arith in
     let f = put_front v (replicate 178 0) room in
-    let h = c.record-length-length.ensures.bound in
-    let long = c.put-record.auto.out in
+    let h = c.record_length-length.ensures.bound in
+    let long = c.put_record.auto.out in
     search rules
 
 pub returns : goal.returns
@@ -27,5 +27,5 @@ returns c =
     let v = c.args.components.now in
     let room : length (record_bytes v) ≤ 178 = omega arith in
     let f = put_front v (replicate 178 0) room in
-    let n : length (record_bytes v) ≡ c.record-length-length.result - 0 = omega arith in
-    c.read.ensures.value ∙ ap (λ l. record_read (take (c.record-length-length.result - 0) l)) (c.put-record.ensures.memory ∙ ap (λ w. w.1) f) ∙ ap record_read (take_at (record_bytes v) _ _ n)
+    let n : length (record_bytes v) ≡ c.record_length-length.result - 0 = omega arith in
+    c.read.ensures.value ∙ ap (λ l. record_read (take (c.record_length-length.result - 0) l)) (c.put_record.ensures.memory ∙ ap (λ w. w.1) f) ∙ ap record_read (take_at (record_bytes v) _ _ n)

@@ -18,10 +18,10 @@ returns c =
     let e = written_fits v c.args.out.now room in
     let f = put_front v c.args.out.now room in
     record {
-      answer = c.put-record.ensures.answer ∙ ap (λ w. w.0) e;
-      memory = c.put-record.ensures.memory ∙ ap (λ w. w.1) e;
-      within = written_within v c.args.out.now c.put-record.result c.put-record.new.out room (c.put-record.ensures.answer ∙ ap (λ w. w.0) f) (omega arith);
+      answer = c.put_record.ensures.answer ∙ ap (λ w. w.0) e;
+      memory = c.put_record.ensures.memory ∙ ap (λ w. w.1) e;
+      within = written_within v c.args.out.now c.put_record.result c.put_record.new.out room (c.put_record.ensures.answer ∙ ap (λ w. w.0) f) (omega arith);
       restores = λ n h.
-          ap (λ l. record_read (take n l)) (c.put-record.ensures.memory ∙ ap (λ w. w.1) f)
-          ∙ front_restores v c.args.out.now n c.args.self.now.kept (ok_same (sym h ∙ c.put-record.ensures.answer ∙ ap (λ w. w.0) f));
+          ap (λ l. record_read (take n l)) (c.put_record.ensures.memory ∙ ap (λ w. w.1) f)
+          ∙ front_restores v c.args.out.now n c.args.self.now.kept (ok_same (sym h ∙ c.put_record.ensures.answer ∙ ap (λ w. w.0) f));
     }

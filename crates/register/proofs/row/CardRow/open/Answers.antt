@@ -3,4 +3,4 @@ use Rattle.register.proofs.CardRows.{row_kept_lem}
 use Rattle.register.proofs.row.CardRow.open.Goals as goal
 
 pub invariant-of-self : goal.invariant-of-self
-invariant-of-self c = (row_kept_lem c.args.day c.args.cards.now (sym c.if-not-keeps.ensures) (sym c.in-ok-check-cards.ensures), tt)
+invariant-of-self c = (row_kept_lem c.args.day c.args.cards.now (sym c.if-not-keeps.ensures) (sym c.in_ok-check_cards.ensures), tt)

@@ -7,13 +7,13 @@ use Rattle.register_file.proofs.FileWritten.{file_written}
 use Rattle.register_file.proofs.Skipped.{lent_bytes}
 use Rattle.register_file.proofs.file.RegisterFile.open.Goals as goal
 
-pub returns-in-err-check-file : goal.returns-in-err-check-file
-returns-in-err-check-file c =
+pub returns-in_err-check_file : goal.returns-in_err-check_file
+returns-in_err-check_file c =
     let bytes = c.args.bytes.now in
     let old = c.args.self.now.bytes.now in
     let all = lent_bytes bytes c.type-inv.bytes in
-    let p = err_from_is_err_and c.from-residual.result c.from-residual.ensures.1 in
-    let refused = c.in-err-check-file.ensures in
+    let p = err_from_is_err_and c.from_residual.result c.from_residual.ensures.1 in
+    let refused = c.in_err-check_file.ensures in
     record {
       answer = p.1 ∙ ap Err p.2 ∙ refused;
       bytes = sym (granted_old (file_at bytes) bytes old _ refused);
@@ -28,7 +28,7 @@ returns c =
     let bytes = c.args.bytes.now in
     let old = c.args.self.now.bytes.now in
     let all = lent_bytes bytes c.type-inv.bytes in
-    let taken = c.in-ok-check-file.ensures in
+    let taken = c.in_ok-check_file.ensures in
     record {
       answer = taken;
       bytes = sym (granted_new (file_at bytes) bytes old taken);
