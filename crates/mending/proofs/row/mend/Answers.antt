@@ -22,7 +22,7 @@ returns-in_err-curve c =
     let k = c.args.card.now in
     let b = c.args.bid.now.components in
     p.1 ∙ ap Err p.2
-    ∙ ap (row_made b (mended_services k b)) (c.in_err-curve.ensures ∙ joined d k b _ _ _ _ _ _ c.mended_services-services.result _ c.base.ensures c.mended_services-services.ensures c.need.ensures.value (to_z-of_z w32 c.extension_price.result (record { sfits = c.extension_price.type-inv })) c.extension_price.ensures (to_z-of_z w32 c.ceiling.result (record { sfits = c.ceiling.type-inv })) c.ceiling.ensures c.capped-curve.ensures)
+    ∙ ap (row_made b (mended_services k b)) (c.in_err-curve.ensures ∙ joined d k b _ _ _ _ _ _ c.mended_services-services.result _ c.base.ensures c.mended_services-services.ensures c.need.ensures.value (to_z-of_z w32 c.extension_price.result (record { sfits = c.extension_price.type_inv })) c.extension_price.ensures (to_z-of_z w32 c.ceiling.result (record { sfits = c.ceiling.type_inv })) c.ceiling.ensures c.capped-curve.ensures)
 
 pub returns : goal.returns
 unfolding mended
@@ -31,4 +31,4 @@ returns c =
     let k = c.args.card.now in
     let b = c.args.bid.now.components in
     ap (λ s. Ok (remade b s c.in_ok-curve.curve)) c.mended_services-services.ensures
-    ∙ ap (row_made b (mended_services k b)) (c.in_ok-curve.ensures ∙ joined d k b _ _ _ _ _ _ c.mended_services-services.result _ c.base.ensures c.mended_services-services.ensures c.need.ensures.value (to_z-of_z w32 c.extension_price.result (record { sfits = c.extension_price.type-inv })) c.extension_price.ensures (to_z-of_z w32 c.ceiling.result (record { sfits = c.ceiling.type-inv })) c.ceiling.ensures c.capped-curve.ensures)
+    ∙ ap (row_made b (mended_services k b)) (c.in_ok-curve.ensures ∙ joined d k b _ _ _ _ _ _ c.mended_services-services.result _ c.base.ensures c.mended_services-services.ensures c.need.ensures.value (to_z-of_z w32 c.extension_price.result (record { sfits = c.extension_price.type_inv })) c.extension_price.ensures (to_z-of_z w32 c.ceiling.result (record { sfits = c.ceiling.type_inv })) c.ceiling.ensures c.capped-curve.ensures)

@@ -25,12 +25,12 @@ returns-in_err-components g c =
     let card = found _ c.look.new.card (m.cards b.resource) (sym c.look.ensures.answer ∙ c.if-not-look.false) c.look.ensures.filled in
     ap told (p.1 ∙ ap Err p.2) ∙ ap (marked b) c.in_err-components.ensures ∙ ap (λ x. marked b (after_checks x (mended c.day-day.result c.look.new.card b))) c.in_ok-check.ensures ∙ ap (marked b) (ruled_card c.args.coordinator m b c.day-day.result c.look.new.card card c.day-day.ensures.value)
 
-pub invariant-of-result : goal.invariant-of-result
-invariant-of-result g c =
+pub invariant_of-result : goal.invariant_of-result
+invariant_of-result g c =
     let m = g.R.Register.meaning c.args.register.now in
     let b = c.args.bid.now.components in
     let card = found _ c.look.new.card (m.cards b.resource) (sym c.look.ensures.answer ∙ c.if-not-look.false) c.look.ensures.filled in
-    (judged_kept m b c.day-day.result c.look.new.card c.in_ok-components.components c.day-day.ensures.keeps card c.day-day.ensures.value c.args.bid.now.kept (sym c.in_ok-components.ensures), tt)
+    record { kept = judged_kept m b c.day-day.result c.look.new.card c.in_ok-components.components c.day-day.ensures.keeps card c.day-day.ensures.value c.args.bid.now.kept (sym c.in_ok-components.ensures) }
 
 pub returns : goal.returns
 returns g c =

@@ -13,8 +13,8 @@ returns-in_err-put_record c =
     let f = put_front v (replicate 178 0) room in
     absurd (ok_not_err _ _ (sym (c.in_err-put_record.ensures.answer ∙ ap (λ w. w.0) f)))
 
-pub slice-bounds-read-end : goal.slice-bounds-read-end
-slice-bounds-read-end c =
+pub slice_bounds-read-end : goal.slice_bounds-read-end
+slice_bounds-read-end c =
     let v = c.args.components.now in
     let room : length (record_bytes v) ≤ 178 = omega arith in
     let f = put_front v (replicate 178 0) room in

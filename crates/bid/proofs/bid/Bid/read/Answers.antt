@@ -16,7 +16,7 @@ pub returns-in_err-components : goal.returns-in_err-components
 unfolding record_read
 returns-in_err-components c =
     let bytes = c.args.bytes.now in
-    let all = lent_bytes bytes c.type-inv.bytes in
+    let all = lent_bytes bytes c.type_inv.bytes in
     let p = err_from_is_err_and c.from_residual.result c.from_residual.ensures.1 in
     let e : told c.from_residual.result ≡ record_read bytes = ap told (p.1 ∙ ap Err p.2) ∙ ap (λ r. and_then r (end bytes)) c.in_err-components.ensures in
     record { value = e; exact = reads_records bytes all; left = tells_bytes_left bytes all; placed = told_place bytes c.from_residual.result all e }
@@ -25,21 +25,21 @@ pub returns-then-next-bytes : goal.returns-then-next-bytes
 unfolding record_read
 returns-then-next-bytes c =
     let bytes = c.args.bytes.now in
-    let all = lent_bytes bytes c.type-inv.bytes in
+    let all = lent_bytes bytes c.type_inv.bytes in
     let next = c.in_ok-components.next in
     let r : Result Bid Fault = Err (Record BytesLeftOver c.place.result) in
     let e : told r ≡ record_read bytes =
     ap (λ p. Err (Record BytesLeftOver p)) c.place.ensures ∙ sym (cond-true (ltb next (length bytes)) _ _ (lt-ltb next (length bytes) (omega arith))) ∙ ap (λ r. and_then r (end bytes)) c.in_ok-components.ensures in
     record { value = e; exact = reads_records bytes all; left = tells_bytes_left bytes all; placed = told_place bytes r all e }
 
-pub invariant-of-result : goal.invariant-of-result
-invariant-of-result c = ((record_exact c.args.bytes.now 0 _ _ (lent_bytes c.args.bytes.now c.type-inv.bytes) (sym c.in_ok-components.ensures)).0, tt)
+pub invariant_of-result : goal.invariant_of-result
+invariant_of-result c = record { kept = (record_exact c.args.bytes.now 0 _ _ (lent_bytes c.args.bytes.now c.type_inv.bytes) (sym c.in_ok-components.ensures)).0 }
 
 pub returns : goal.returns
 unfolding record_read
 returns c =
     let bytes = c.args.bytes.now in
-    let all = lent_bytes bytes c.type-inv.bytes in
+    let all = lent_bytes bytes c.type_inv.bytes in
     let next = c.in_ok-components.next in
     record {
       value = sym (cond-false (ltb next (length bytes)) _ _ (le-ltb next (length bytes) (omega arith))) ∙ ap (λ r. and_then r (end bytes)) c.in_ok-components.ensures;

@@ -19,8 +19,8 @@ returns-then-at-eq-PLACES c =
     let is = cond-false (has_place (entries t) n) _ _ full in
     record { answer = sym is; after = sym (ap (λ r. granted r (put_level n c.args.level (entries t)) (entries t)) is) }
 
-pub invariant-of-self : goal.invariant-of-self
-invariant-of-self c =
+pub invariant_of-self : goal.invariant_of-self
+invariant_of-self c =
     let r = c.args.self.now in
     let n = c.args.resource in
     let l = c.args.level in
@@ -30,7 +30,7 @@ invariant-of-self c =
       | then-at-levels w ↦ inl (w.if-at-levels.true, w.levels-is)
       | else-at-levels w ↦ inr (w.if-at-levels.false, w.levels-is)
     ] in
-    (table_kept r.levels r.kept n at l m (to_z-of_z w32 l c.ranges.level) c.requires c.place_of-at.ensures.value c.if-at-eq-PLACES.false c.if-at-levels.levels way, tt)
+    record { kept = table_kept r.levels r.kept n at l m (to_z-of_z w32 l c.ranges.level) c.requires c.place_of-at.ensures.value c.if-at-eq-PLACES.false c.if-at-levels.levels way }
 
 pub returns : goal.returns
 returns c =

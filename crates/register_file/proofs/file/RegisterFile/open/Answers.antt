@@ -11,7 +11,7 @@ pub returns-in_err-check_file : goal.returns-in_err-check_file
 returns-in_err-check_file c =
     let bytes = c.args.bytes.now in
     let old = c.args.self.now.bytes.now in
-    let all = lent_bytes bytes c.type-inv.bytes in
+    let all = lent_bytes bytes c.type_inv.bytes in
     let p = err_from_is_err_and c.from_residual.result c.from_residual.ensures.1 in
     let refused = c.in_err-check_file.ensures in
     record {
@@ -27,7 +27,7 @@ pub returns : goal.returns
 returns c =
     let bytes = c.args.bytes.now in
     let old = c.args.self.now.bytes.now in
-    let all = lent_bytes bytes c.type-inv.bytes in
+    let all = lent_bytes bytes c.type_inv.bytes in
     let taken = c.in_ok-check_file.ensures in
     record {
       answer = taken;
