@@ -5,7 +5,7 @@ use Rattle.register.specs.declared.data.RampLimits.{RampLimits}
 use Rattle.register.specs.Cards.{blank_limits}
 use Rattle.register.proofs.Entries.{rows_behind, rows_more, rows_fail}
 use Rattle.register.proofs.kept.ramp_keeps.Goals as goal
-use Rattle.register.proofs.kept.ramp_keeps.Goals.{then-row-before-via-then-row-before, then-row-before-via-else-row-before+then-not-row-keeps-2}
+use Rattle.register.proofs.kept.ramp_keeps.Goals.{then-row-before-via-then-row-before, then-row-before-via-else-row-before+then-not-row_keeps-2}
 
 pub returns-then-row-before : goal.returns-then-row-before
 returns-then-row-before c =
@@ -16,7 +16,7 @@ returns-then-row-before c =
     let rest = drop (i + 1) xs in
     let fails : rows_behind c.args.pmax b (r ∷ rest) ≡ false = elim c.then-row-before.branch [
       | then-row-before-via-then-row-before w ↦ rows_fail c.args.pmax b r rest (inr (le-ltb b.level r.level w.if-row-before.true))
-      | then-row-before-via-else-row-before+then-not-row-keeps-2 w ↦ rows_fail c.args.pmax b r rest (inl (sym w.if-not-row_keeps-2.ensures))
+      | then-row-before-via-else-row-before+then-not-row_keeps-2 w ↦ rows_fail c.args.pmax b r rest (inl (sym w.if-not-row_keeps-2.ensures))
     ] in
     sym (sym c.loop-i.invariant ∙ at_drop_more (rows_behind c.args.pmax b) xs i blank_limits c.loop-i-test.true ∙ fails)
 
