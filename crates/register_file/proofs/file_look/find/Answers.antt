@@ -16,25 +16,25 @@ loop-i-init c =
 pub after_card-next-requires : goal.after_card-next-requires
 after_card-next-requires c =
     let bytes = c.args.bytes.now in
-    (next_stands bytes (lent_bytes bytes c.type_inv.bytes) c.args.count c.loop-i.-i c.loop-i-test.true c.loop-i.next (c.loop-i.-i + 1) c.loop-i.invariant.0.0 c.loop-i.invariant.0.1).0
+    (next_stands bytes (lent_bytes bytes c.type_inv.bytes) c.args.count c.loop-i._i c.loop-i-test.true c.loop-i.next (c.loop-i._i + 1) c.loop-i.invariant.0.0 c.loop-i.invariant.0.1).0
 
 pub returns-then-number-resource : goal.returns-then-number-resource
 returns-then-number-resource c =
     let bytes = c.args.bytes.now in
-    sym (search_here bytes (lent_bytes bytes c.type_inv.bytes) c.args.count c.loop-i.-i c.loop-i-test.true c.loop-i.next c.args.resource c.word_or_zero-number.result c.word_or_zero-number.ensures c.if-number-resource.true)
+    sym (search_here bytes (lent_bytes bytes c.type_inv.bytes) c.args.count c.loop-i._i c.loop-i-test.true c.loop-i.next c.args.resource c.word_or_zero-number.result c.word_or_zero-number.ensures c.if-number-resource.true)
     ∙ c.loop-i.invariant.1
 
 pub returns-then-number-resource-2 : goal.returns-then-number-resource-2
 returns-then-number-resource-2 c =
     let bytes = c.args.bytes.now in
-    sym (search_past bytes (lent_bytes bytes c.type_inv.bytes) c.args.count c.loop-i.-i c.loop-i-test.true c.loop-i.next c.args.resource c.word_or_zero-number.result c.word_or_zero-number.ensures c.if-number-resource-2.true)
+    sym (search_past bytes (lent_bytes bytes c.type_inv.bytes) c.args.count c.loop-i._i c.loop-i-test.true c.loop-i.next c.args.resource c.word_or_zero-number.result c.word_or_zero-number.ensures c.if-number-resource-2.true)
     ∙ c.loop-i.invariant.1
 
 pub loop-i-preserved : goal.loop-i-preserved
 loop-i-preserved c =
     let bytes = c.args.bytes.now in
     let all = lent_bytes bytes c.type_inv.bytes in
-    let i = c.loop-i.-i in
+    let i = c.loop-i._i in
     let n = c.args.resource in
     let number = c.word_or_zero-number.result in
     let lower : number < n = omega arith in
@@ -46,5 +46,5 @@ loop-i-preserved c =
 
 pub returns : goal.returns
 returns c =
-    let none : c.args.count - c.loop-i.-i ≡ 0 = omega arith in
-    sym (search_done c.args.bytes.now c.args.resource (c.args.count - c.loop-i.-i) c.loop-i.next none) ∙ c.loop-i.invariant.1
+    let none : c.args.count - c.loop-i._i ≡ 0 = omega arith in
+    sym (search_done c.args.bytes.now c.args.resource (c.args.count - c.loop-i._i) c.loop-i.next none) ∙ c.loop-i.invariant.1

@@ -29,7 +29,7 @@ returns-then-not-look g c =
     let xs = entries r.levels.levels in
     let l = c.args.level in
     let price : is_price l ≡ true = ap is_price (sym (to_z-of_z w32 l c.ranges.level)) ∙ sym c.if-not-is_price.ensures in
-    let is = raise_not_held m xs c.args.resource l price c.blank_card.result (sym c.if-not-look.ensures.answer) in
+    let is = raise_not_held m xs c.args.resource l price c.blank-card.result (sym c.if-not-look.ensures.answer) in
     let after = after_answer m xs c.args.resource l (Err (Register ResourceNotHeld 0)) is in
     record { answer = sym is; below = refl; levels = after; means = ap (raised_meaning m) after; raises = raises_hold m }
 
@@ -39,7 +39,7 @@ threshold-requires g c =
     let b = c.look.new.card in
     let own : SFits w32 b.level = search rules in
     ap is_price (to_z-of_z w32 b.level own) ∙ ap (λ x. is_price x.level) c.look.ensures.filled
-    ∙ held_price m c.args.resource c.blank_card.result c.look.ensures.keeps (sym c.if-not-look.ensures.answer)
+    ∙ held_price m c.args.resource c.blank-card.result c.look.ensures.keeps (sym c.if-not-look.ensures.answer)
 
 pub returns-then-level-card : goal.returns-then-level-card
 returns-then-level-card g c =
@@ -59,7 +59,7 @@ returns-then-level-card g c =
           let top = to_z-of_z w32 t fits ∙ w.threshold.ensures ∙ ap threshold (to_z-of_z w32 b.level own) in
           may_not b.level l (inr (sym (λ j. lt_z (top j) (to_z-of_z w32 l c.ranges.level j)) ∙ w.if-level-threshold.true)))
     ] in
-    let is = raise_not_allowed m xs n l price c.blank_card.result (sym c.if-not-look.ensures.answer) (ap (λ x. may_raise x.level l) (sym c.look.ensures.filled) ∙ fails) in
+    let is = raise_not_allowed m xs n l price c.blank-card.result (sym c.if-not-look.ensures.answer) (ap (λ x. may_raise x.level l) (sym c.look.ensures.filled) ∙ fails) in
     let after = after_answer m xs n l (Err (Register RaiseNotAllowed 0)) is in
     record { answer = sym is; below = refl; levels = after; means = ap (raised_meaning m) after; raises = raises_hold m }
 
@@ -77,6 +77,6 @@ returns g c =
     let fits : SFits w32 t = search rules in
     let top = to_z-of_z w32 t fits ∙ c.threshold.ensures ∙ ap threshold (to_z-of_z w32 b.level own) in
     let passes : may_raise b.level l ≡ true = may b.level l (sym (λ j. lt_z (to_z-of_z w32 l c.ranges.level j) (to_z-of_z w32 b.level own j)) ∙ c.if-level-card.false) (sym (λ j. lt_z (top j) (to_z-of_z w32 l c.ranges.level j)) ∙ c.if-level-threshold.false) in
-    let is = raise_put m xs n l price c.blank_card.result (sym c.if-not-look.ensures.answer) (ap (λ x. may_raise x.level l) (sym c.look.ensures.filled) ∙ passes) in
+    let is = raise_put m xs n l price c.blank-card.result (sym c.if-not-look.ensures.answer) (ap (λ x. may_raise x.level l) (sym c.look.ensures.filled) ∙ passes) in
     let after = c.put.ensures.after ∙ ap (λ k. granted (put_answer xs n) (put_level n k xs) xs) (to_z-of_z w32 l c.ranges.level) ∙ after_answer m xs n l (put_answer xs n) is in
     record { answer = c.put.ensures.answer ∙ sym is; below = refl; levels = after; means = ap (raised_meaning m) after; raises = raises_hold m }
