@@ -8,7 +8,7 @@ returns-in-Ok g c = record {
   answer = search rules;
   memory = search rules;
   settled = λ m K. settled c.args.coordinator m c.args.bytes.now c.args.out.now K (lent_bytes c.args.bytes.now c.type_inv.bytes);
-  meaning-counts = λ m. only_meaning c.args.coordinator m c.args.bytes.now c.args.out.now (lent_bytes c.args.bytes.now c.type_inv.bytes);
+  meaning_counts = λ m. only_meaning c.args.coordinator m c.args.bytes.now c.args.out.now (lent_bytes c.args.bytes.now c.type_inv.bytes);
 }
 
 pub returns-in-Err : goal.returns-in-Err
@@ -16,5 +16,5 @@ returns-in-Err g c = record {
   answer = search rules;
   memory = search rules;
   settled = λ m K. settled c.args.coordinator m c.args.bytes.now c.args.out.now K (lent_bytes c.args.bytes.now c.type_inv.bytes);
-  meaning-counts = λ m. only_meaning c.args.coordinator m c.args.bytes.now c.args.out.now (lent_bytes c.args.bytes.now c.type_inv.bytes);
+  meaning_counts = λ m. only_meaning c.args.coordinator m c.args.bytes.now c.args.out.now (lent_bytes c.args.bytes.now c.type_inv.bytes);
 }
