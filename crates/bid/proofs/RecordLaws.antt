@@ -2,7 +2,7 @@
 use Rattle.std.proofs.Common.{◌≡◌, ℕ, ◌+◌, ◌-◌, ◌^◌, ◌<◌, ◌≤◌, min, Bool, true, false, cond, ◌&&◌, ltb, leb, ◌⊎◌, List, [], ◌∷◌, ◌++◌, length, get_or, take, drop, is_some, Ok, Err, Option, Result, sym, refl, ap, ◌∙◌, subst, inl, inr, append_assoc, zero-add, arith}
 use Rattle.std.proofs.lemmas.List.{length-append, append-nil, take_at, drop_at, take-append-drop, length-take-le, nil_from_length, length-drop, take_all, drop_all}
 use Rattle.std.proofs.lemmas.Bool.{and_parts, and_from, ltb-true, lt-ltb, le-ltb, cond-true, cond-false, cases_lt, both_ways}
-use Rattle.faults.specs.Answers.{answered, answer_of, resultAnswer}
+use Rattle.faults.specs.Answers.{answered, answer_of, result_answer}
 use Rattle.faults.specs.declared.Answer.{Answer}
 use Rattle.faults.specs.declared.Fault.{Fault}
 use Rattle.faults.specs.declared.Fault.TheVariants.{Record, Register, Rule, Window}
@@ -365,12 +365,12 @@ pub tells_bytes_left : (bytes : List ℕ) → Bytes bytes → TellsBytesLeft byt
 unfolding record_read
 tells_bytes_left bytes all p = (
   (λ e. elim (ends bytes all) [
-    | failed f is w ↦ absurd (not_left_over 178 p f w (sym (ap resultAnswer is) ∙ e))
+    | failed f is w ↦ absurd (not_left_over 178 p f w (sym (ap result_answer is) ∙ e))
     | left_over c held next long short split more is ↦ (
-        let place : min next 4294967295 ≡ p = ap (λ a. a.place) (sym (ap resultAnswer is) ∙ e) in
+        let place : min next 4294967295 ≡ p = ap (λ a. a.place) (sym (ap result_answer is) ∙ e) in
         let here : next ≡ p = omega arith in
         ((c, (held, sym (ap (λ k. take k bytes) here) ∙ ap (take next) split ∙ take_at (record_bytes c) (drop next bytes) next (sym long))), subst (λ k. k < length bytes) here more))
-    | exactly c held is read ↦ (let z : ◌≡◌ {A = ℕ} 0 5 = ap (λ a. a.number) (sym (ap resultAnswer read) ∙ e) in absurd (omega arith))
+    | exactly c held is read ↦ (let z : ◌≡◌ {A = ℕ} 0 5 = ap (λ a. a.number) (sym (ap result_answer read) ∙ e) in absurd (omega arith))
   ]),
   (λ m.
       let c : Components = m.0.0 in
@@ -380,14 +380,14 @@ tells_bytes_left bytes all p = (
       let split : bytes ≡ record_bytes c ++ drop p bytes = sym (take-append-drop p bytes) ∙ ap (λ l. l ++ drop p bytes) front in
       let short = record_short c held in
       let place : min (length (record_bytes c)) 4294967295 ≡ p = omega arith in
-      ap resultAnswer (ap (λ r. and_then r (end bytes)) (record_front c bytes (drop p bytes) held split)
+      ap result_answer (ap (λ r. and_then r (end bytes)) (record_front c bytes (drop p bytes) held split)
       ∙ cond-true (ltb (length (record_bytes c)) (length bytes)) _ _ (lt-ltb (length (record_bytes c)) (length bytes) (subst (λ k. k < length bytes) (sym long) m.1)))
       ∙ ap (answered 5 1) place),
 )
 
-pub places_small : (bytes : List ℕ) → Bytes bytes → (resultAnswer (record_read bytes)).place ≤ 178
+pub places_small : (bytes : List ℕ) → Bytes bytes → (result_answer (record_read bytes)).place ≤ 178
 places_small bytes all = elim (ends bytes all) [
-  | failed f is w ↦ subst (λ r. (resultAnswer r).place ≤ 178) (sym is) (place_within 178 f w)
-  | left_over c held next long short split more is ↦ subst (λ r. (resultAnswer r).place ≤ 178) (sym is) (omega arith)
-  | exactly c held is read ↦ subst (λ r. (resultAnswer r).place ≤ 178) (sym read) (omega arith)
+  | failed f is w ↦ subst (λ r. (result_answer r).place ≤ 178) (sym is) (place_within 178 f w)
+  | left_over c held next long short split more is ↦ subst (λ r. (result_answer r).place ≤ 178) (sym is) (omega arith)
+  | exactly c held is read ↦ subst (λ r. (result_answer r).place ≤ 178) (sym read) (omega arith)
 ]

@@ -3,7 +3,7 @@ use Rattle.std.proofs.Common.{◌≡◌, ℕ, ◌+◌, ◌<◌, ◌≤◌, true,
 use Rattle.std.proofs.ByRecursion.{All-from_get_or}
 use Rattle.std.proofs.lemmas.List.{take_at}
 use Rattle.std.proofs.lemmas.Bool.{cond-true, cond-false, le-leb, lt-leb}
-use Rattle.faults.specs.Answers.{resultAnswer}
+use Rattle.faults.specs.Answers.{result_answer}
 use Rattle.faults.specs.declared.Fault.{Fault}
 use Rattle.wire.specs.Bytes.{Bytes, byte_bytes, word_bytes, long_bytes}
 use Rattle.wire.specs.Laws.{Puts}
@@ -25,12 +25,12 @@ use Rattle.bid.proofs.RecordLaws.{places_small, record_whole}
 pub lent_bytes : (bytes : List ℕ) → ((i : ℕ) → Fits w8 (get_or bytes i 0)) → Bytes bytes
 lent_bytes bytes typed = All-from_get_or (λ b. b < 256) bytes 0 (λ i h. (typed i).fits)
 
-told_answer : (r : Result Bid Fault) → resultAnswer (told r) ≡ resultAnswer r
+told_answer : (r : Result Bid Fault) → result_answer (told r) ≡ result_answer r
 told_answer (Ok b) = refl
 told_answer (Err f) = refl
 
-pub told_place : (bytes : List ℕ) (r : Result Bid Fault) → Bytes bytes → told r ≡ record_read bytes → (resultAnswer r).place ≤ 178
-told_place bytes r all e = subst (λ a. a.place ≤ 178) (sym (ap resultAnswer e) ∙ told_answer r) (places_small bytes all)
+pub told_place : (bytes : List ℕ) (r : Result Bid Fault) → Bytes bytes → told r ≡ record_read bytes → (result_answer r).place ≤ 178
+told_place bytes r all e = subst (λ a. a.place ≤ 178) (sym (ap result_answer e) ∙ told_answer r) (places_small bytes all)
 
 services_puts : (s : Services) → Puts (services_put s) (services_bytes s)
 services_puts s =

@@ -1,6 +1,6 @@
 -- The bid record: what reading it gives, and the bytes that it is written in. Assumes nothing.
 use Rattle.std.specs.Prelude.{◌≡◌, ℕ, ◌<◌, ◌≤◌, Bool, true, cond, List, [], ◌∷◌, ◌++◌, length, take, drop, is_some, Ok, Err, Option, Result, nat_le, nat_lt}
-use Rattle.faults.specs.Answers.{answered, resultAnswer}
+use Rattle.faults.specs.Answers.{answered, result_answer}
 use Rattle.faults.specs.declared.Fault.{Fault}
 use Rattle.faults.specs.declared.RecordFault.TheVariants.{BytesLeftOver}
 use Rattle.wire.specs.Bytes.{byte_bytes, word_bytes, long_bytes}
@@ -102,4 +102,4 @@ MoreFollows bytes p = ((c : Components) × IsRecord (take p bytes) c) × (p < le
 
 -- bytes left over are told at p exactly when the first p bytes are a record and more follow
 abbrev pub TellsBytesLeft : List ℕ → Type 0
-TellsBytesLeft bytes = (p : ℕ) → (resultAnswer (record_read bytes) ≡ answered 5 1 p → MoreFollows bytes p) × (MoreFollows bytes p → resultAnswer (record_read bytes) ≡ answered 5 1 p)
+TellsBytesLeft bytes = (p : ℕ) → (result_answer (record_read bytes) ≡ answered 5 1 p → MoreFollows bytes p) × (MoreFollows bytes p → result_answer (record_read bytes) ≡ answered 5 1 p)

@@ -1,6 +1,6 @@
 // A bid read from its record, made from components, and written.
 ghost use Rattle.std.specs.Prelude.{◌≡◌, ℕ, ◌≤◌, true, List, length, take, IfOk, Ok};
-ghost use Rattle.faults.specs.Answers.{resultAnswer};
+ghost use Rattle.faults.specs.Answers.{result_answer};
 ghost use Rattle.bid.specs.Read.{told};
 ghost use Rattle.bid.specs.Record.{record_read, record_bytes, record_written, ReadsRecords, TellsBytesLeft};
 
@@ -19,7 +19,7 @@ impl Bid {
         ensures value { told result ≡ record_read bytes.now }
         ensures exact { ReadsRecords bytes.now }
         ensures left { TellsBytesLeft bytes.now }
-        ensures placed { (resultAnswer result).place ≤ 178 }
+        ensures placed { (result_answer result).place ≤ 178 }
     {
         let (components, next) = record_at(bytes, 0)?;
         if next < bytes.len() {

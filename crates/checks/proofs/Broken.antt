@@ -47,13 +47,13 @@ checks_passed_lem coordinator d c b =
     ∙ ap (in_turn (first_broken p₃)) (first_append p₄ (p₅ ++ p₆) ∙ ap (λ q. in_turn q (first_broken (p₅ ++ p₆))) (services_passed_lem d c b.services) ∙ ap (in_turn (services_passed d c b.services)) (first_append p₅ p₆))))
 
 -- one more of the things that are checked in turn: a group's checks, and then the others'
-module _ {X : Type 0} (xs : List X) (i : ℕ) (d : X) (within : i < length xs) (checksOf : List X → List Check) (group : List Check) (others : List X → List Check)
-    (opens : checksOf (get_or xs i d ∷ drop (i + 1) xs) ≡ group ++ others (drop (i + 1) xs)) where
-  opened : checksOf (drop i xs) ≡ group ++ others (drop (i + 1) xs)
-  opened = ap checksOf (drop_more xs i d within) ∙ opens
+module _ {X : Type 0} (xs : List X) (i : ℕ) (d : X) (within : i < length xs) (checks_of : List X → List Check) (group : List Check) (others : List X → List Check)
+    (opens : checks_of (get_or xs i d ∷ drop (i + 1) xs) ≡ group ++ others (drop (i + 1) xs)) where
+  opened : checks_of (drop i xs) ≡ group ++ others (drop (i + 1) xs)
+  opened = ap checks_of (drop_more xs i d within) ∙ opens
 
-  pub turn_passed : Ok tt ≡ first_broken group → first_broken (others (drop (i + 1) xs)) ≡ first_broken (checksOf (drop i xs))
+  pub turn_passed : Ok tt ≡ first_broken group → first_broken (others (drop (i + 1) xs)) ≡ first_broken (checks_of (drop i xs))
   turn_passed e = first_passed group (others (drop (i + 1) xs)) e ∙ sym (ap first_broken opened)
 
-  pub turn_failed : (f : Fault) → Err f ≡ first_broken group → Err f ≡ first_broken (checksOf (drop i xs))
+  pub turn_failed : (f : Fault) → Err f ≡ first_broken group → Err f ≡ first_broken (checks_of (drop i xs))
   turn_failed f e = first_failed group (others (drop (i + 1) xs)) f e ∙ sym (ap first_broken opened)

@@ -12,49 +12,49 @@ use Rattle.faults.specs.declared.RuleFault.TheVariants.{SelfSchedule, CurveStart
 use Rattle.faults.specs.declared.WindowFault.{WindowFault}
 use Rattle.faults.specs.declared.WindowFault.TheVariants.{Full, BookLength, NoSuchRow, MemoryTooShort, NoCoordinator}
 
-abbrev pub recordNumber : RecordFault → ℕ
-recordNumber CutShort = 1
-recordNumber UnknownBit = 2
-recordNumber BadCount = 3
-recordNumber OutOfRange = 4
-recordNumber BytesLeftOver = 5
+abbrev pub record_number : RecordFault → ℕ
+record_number CutShort = 1
+record_number UnknownBit = 2
+record_number BadCount = 3
+record_number OutOfRange = 4
+record_number BytesLeftOver = 5
 
-abbrev pub registerNumber : RegisterFault → ℕ
-registerNumber ResourceNotHeld = 6
-registerNumber NotTheOwner = 7
-registerNumber NoSuchHour = 8
-registerNumber RaiseNotAllowed = 23
-registerNumber Breach = 24
+abbrev pub register_number : RegisterFault → ℕ
+register_number ResourceNotHeld = 6
+register_number NotTheOwner = 7
+register_number NoSuchHour = 8
+register_number RaiseNotAllowed = 23
+register_number Breach = 24
 
-abbrev pub ruleNumber : RuleFault → ℕ
-ruleNumber SelfSchedule = 9
-ruleNumber CurveStart = 10
-ruleNumber StepEnd = 11
-ruleNumber StepPrice = 12
-ruleNumber Service = 13
-ruleNumber StartUp = 14
-ruleNumber Ramp = 15
-ruleNumber ReserveAboveTop = 16
-ruleNumber EleventhStep = 17
+abbrev pub rule_number : RuleFault → ℕ
+rule_number SelfSchedule = 9
+rule_number CurveStart = 10
+rule_number StepEnd = 11
+rule_number StepPrice = 12
+rule_number Service = 13
+rule_number StartUp = 14
+rule_number Ramp = 15
+rule_number ReserveAboveTop = 16
+rule_number EleventhStep = 17
 
-abbrev pub windowNumber : WindowFault → ℕ
-windowNumber Full = 18
-windowNumber BookLength = 19
-windowNumber NoSuchRow = 20
-windowNumber MemoryTooShort = 21
-windowNumber NoCoordinator = 22
+abbrev pub window_number : WindowFault → ℕ
+window_number Full = 18
+window_number BookLength = 19
+window_number NoSuchRow = 20
+window_number MemoryTooShort = 21
+window_number NoCoordinator = 22
 
 abbrev pub answered : ℕ → ℕ → ℕ → Answer
 answered n l p = record { number = n; layer = l; place = p }
 
 -- the record's layer is 1, the register's 2, the rules' 3, the window's 4
 abbrev pub answer_of : Fault → Answer
-answer_of (Record f p) = answered (recordNumber f) 1 p
-answer_of (Register f p) = answered (registerNumber f) 2 p
-answer_of (Rule f p) = answered (ruleNumber f) 3 p
-answer_of (Window f p) = answered (windowNumber f) 4 p
+answer_of (Record f p) = answered (record_number f) 1 p
+answer_of (Register f p) = answered (register_number f) 2 p
+answer_of (Rule f p) = answered (rule_number f) 3 p
+answer_of (Window f p) = answered (window_number f) 4 p
 
 -- a granted call answers 0, 0, 0
-abbrev pub resultAnswer : {A : Type 0} → Result A Fault → Answer
-resultAnswer (Ok x) = answered 0 0 0
-resultAnswer (Err f) = answer_of f
+abbrev pub result_answer : {A : Type 0} → Result A Fault → Answer
+result_answer (Ok x) = answered 0 0 0
+result_answer (Err f) = answer_of f

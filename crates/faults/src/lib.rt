@@ -1,6 +1,6 @@
 // Why something was refused: one fault type for every layer, and the numbers that it answers.
 ghost use Rattle.std.specs.Prelude.{◌≡◌};
-ghost use Rattle.faults.specs.Answers.{recordNumber, registerNumber, ruleNumber, windowNumber, answer_of};
+ghost use Rattle.faults.specs.Answers.{record_number, register_number, rule_number, window_number, answer_of};
 
 mod words;
 
@@ -67,7 +67,7 @@ pub struct Answer {
 
 impl RecordFault {
     fn number(self) -> u8
-        ensures { result ≡ recordNumber self }
+        ensures { result ≡ record_number self }
     {
         match self {
             RecordFault::CutShort => 1,
@@ -81,7 +81,7 @@ impl RecordFault {
 
 impl RegisterFault {
     fn number(self) -> u8
-        ensures { result ≡ registerNumber self }
+        ensures { result ≡ register_number self }
     {
         match self {
             RegisterFault::ResourceNotHeld => 6,
@@ -95,7 +95,7 @@ impl RegisterFault {
 
 impl RuleFault {
     fn number(self) -> u8
-        ensures { result ≡ ruleNumber self }
+        ensures { result ≡ rule_number self }
     {
         match self {
             RuleFault::SelfSchedule => 9,
@@ -113,7 +113,7 @@ impl RuleFault {
 
 impl WindowFault {
     fn number(self) -> u8
-        ensures { result ≡ windowNumber self }
+        ensures { result ≡ window_number self }
     {
         match self {
             WindowFault::Full => 18,

@@ -5,7 +5,7 @@ use Rattle.std.proofs.lemmas.List.{drop_more, drop_all, length-map}
 use Rattle.std.proofs.lemmas.Bool.{cases_lt, cases_eq, cases_order, cond_both}
 use Rattle.std.proofs.lemmas.Bool.Decides.{nat_tests, Decides-eqb, Decides-ltb, Decides-not, Decides-or, Decides-and, Decides-like}
 use Rattle.std.specs.Int.{int_min}
-use Rattle.faults.specs.Answers.{answer_of, answered, resultAnswer, ruleNumber}
+use Rattle.faults.specs.Answers.{answer_of, answered, result_answer, rule_number}
 use Rattle.faults.specs.declared.Answer.{Answer}
 use Rattle.faults.specs.declared.Fault.{Fault}
 use Rattle.faults.specs.declared.Fault.TheVariants.{Register, Rule}
@@ -119,8 +119,8 @@ module _ (coordinator : ℕ) (m : Meaning) (b : Components) (bk : keeps b ≡ tr
 
   -- counts that have to agree, and then each pair beside the card's in turn, for a fault whose turns are those from one up to another
   module _ (f : RuleFault) (from upto count limits : ℕ) (Row : ℕ → Type 0) (test : ℕ → Bool) (rows : ℕ → Passed)
-      (turns : (p : ℕ) → turn (ruleNumber f) p ≡ from + p) (numbers : (t : ℕ) → from ≤ t → t < upto → number_at t ≡ ruleNumber f) (own : (p : ℕ) → from + p < upto → Known (ruleNumber f) p) (few : from + count < upto)
-      (decides : (k : ℕ) → Decides (test k) (Row k)) (breaks : (p : ℕ) → PlaceBroken count limits Row p → Broken (ruleNumber f) p) (broken : (p : ℕ) → Broken (ruleNumber f) p → PlaceBroken count limits Row p)
+      (turns : (p : ℕ) → turn (rule_number f) p ≡ from + p) (numbers : (t : ℕ) → from ≤ t → t < upto → number_at t ≡ rule_number f) (own : (p : ℕ) → from + p < upto → Known (rule_number f) p) (few : from + count < upto)
+      (decides : (k : ℕ) → Decides (test k) (Row k)) (breaks : (p : ℕ) → PlaceBroken count limits Row p → Broken (rule_number f) p) (broken : (p : ℕ) → Broken (rule_number f) p → PlaceBroken count limits Row p)
       (opens : (k : ℕ) → k < count → k < limits → cond (test k) (Err (Rule f (k + 1))) (rows (suc k)) ≡ rows k) (ends : Ok tt ≡ rows (min count limits)) where
     row_broken : (k : ℕ) → PlaceBroken count limits Row (k + 1) → Row k
     row_broken k h = elim h [ inl x ↦ absurd (omega (arith, x.0)) | inr w ↦ (let e : w.0 ≡ k = omega (arith, w.1) in subst Row e w.4) ]
@@ -139,7 +139,7 @@ module _ (coordinator : ℕ) (m : Meaning) (b : Components) (bk : keeps b ≡ tr
 
     no_row : Clear Broken knows (from + 1 + 1 * min count limits) upto
     no_row n p low high h =
-        let e : n ≡ ruleNumber f = sym (knows n p h).number ∙ numbers (turn n p) (omega arith) high in
+        let e : n ≡ rule_number f = sym (knows n p h).number ∙ numbers (turn n p) (omega arith) high in
         let t : turn n p ≡ from + p = ap (λ x. turn x p) e ∙ turns p in
         elim (broken p (subst (λ x. Broken x p) e h)) [ inl x ↦ omega (arith, x.0) | inr w ↦ omega (arith, w.1, w.2, w.3) ]
 
@@ -329,7 +329,7 @@ module _ (coordinator : ℕ) (m : Meaning) (b : Components) (bk : keeps b ≡ tr
       (subst (Told 1 38) (sym (checks_passed_lem coordinator m.day c b)) (told-checks c e)) (told-mended c e))
 
   -- a verdict that tells of all turns answers exactly
-  denied_first : (r : Result Components Fault) → Told 0 40 r → (n l p : ℕ) → resultAnswer r ≡ answered n l p → 0 < n → (l ≡ layer_of n) × BreaksFirst coordinator m b n p
+  denied_first : (r : Result Components Fault) → Told 0 40 r → (n l p : ℕ) → result_answer r ≡ answered n l p → 0 < n → (l ≡ layer_of n) × BreaksFirst coordinator m b n p
   denied_first (Ok x) t n l p e some =
       let number : Answer → ℕ = λ a. a.number in
       absurd (omega (arith, ap number e))
@@ -340,7 +340,7 @@ module _ (coordinator : ℕ) (m : Meaning) (b : Components) (bk : keeps b ≡ tr
       let first : BreaksFirst coordinator m b (answer_of f).number (answer_of f).place = (t.holds, λ n' p' lt h. t.before n' p' (omega arith) lt h) in
       (sym (ap layer e) ∙ layer_known f (knows (answer_of f).number (answer_of f).place t.holds) ∙ ap layer_of (ap number e), subst (BreaksFirst coordinator m b n) (ap place e) (subst (λ k. BreaksFirst coordinator m b k (answer_of f).place) (ap number e) first))
 
-  first_answered : (r : Result Components Fault) → Told 0 40 r → (n p : ℕ) → BreaksFirst coordinator m b n p → resultAnswer r ≡ answered n (layer_of n) p
+  first_answered : (r : Result Components Fault) → Told 0 40 r → (n p : ℕ) → BreaksFirst coordinator m b n p → result_answer r ≡ answered n (layer_of n) p
   first_answered (Ok x) t n p h = absurd (t n p (omega arith) (knows n p h.0).last h.0)
   first_answered (Err f) t n p h =
       let n' : ℕ = (answer_of f).number in
@@ -350,11 +350,11 @@ module _ (coordinator : ℕ) (m : Meaning) (b : Components) (bk : keeps b ≡ tr
         | inr e ↦ elim e [ inl lt ↦ absurd (h.1 n' p' lt t.holds) | inr lt ↦ absurd (t.before n p (omega arith) lt h.0) ]
       ]
 
-  granted_clear : (r : Result Components Fault) → Told 0 40 r → (resultAnswer r).number ≡ 0 → (n p : ℕ) → Broken n p → ⊥
+  granted_clear : (r : Result Components Fault) → Told 0 40 r → (result_answer r).number ≡ 0 → (n p : ℕ) → Broken n p → ⊥
   granted_clear (Ok x) t e n p h = t n p (omega arith) (knows n p h).last h
   granted_clear (Err f) t e n p h = omega (arith, (knows (answer_of f).number (answer_of f).place t.holds).some)
 
-  clear_granted : (r : Result Components Fault) → Told 0 40 r → ((n p : ℕ) → Broken n p → ⊥) → resultAnswer r ≡ answered 0 0 0
+  clear_granted : (r : Result Components Fault) → Told 0 40 r → ((n p : ℕ) → Broken n p → ⊥) → result_answer r ≡ answered 0 0 0
   clear_granted (Ok x) t none = refl
   clear_granted (Err f) t none = absurd (none _ _ t.holds)
 

@@ -55,6 +55,6 @@ no_other_lem d c b row row' rk rk' m m' =
     let ups = one_regulation (NotAboveLimit c b) (free b.hour c.up) c.up b.services.regulation_up row.services.regulation_up row'.services.regulation_up m.regulation_up m'.regulation_up in
     let downs = one_regulation (Unit {0}) (free b.hour c.down) c.down b.services.regulation_down row.services.regulation_down row'.services.regulation_down m.regulation_down m'.regulation_down in
     let spins = one_reserve b b.services.spinning row.services.spinning row'.services.spinning m.spinning m'.spinning in
-    let nonSpins = one_reserve b b.services.non_spinning row.services.non_spinning row'.services.non_spinning m.non_spinning m'.non_spinning in
-    let services : row.services ≡ row'.services = λ j. record { regulation_up = ups j; regulation_down = downs j; spinning = spins j; non_spinning = nonSpins j } in
+    let non_spins = one_reserve b b.services.non_spinning row.services.non_spinning row'.services.non_spinning m.non_spinning m'.non_spinning in
+    let services : row.services ≡ row'.services = λ j. record { regulation_up = ups j; regulation_down = downs j; spinning = spins j; non_spinning = non_spins j } in
     λ j. record { resource = resources j; hour = hours j; self_schedule = schedules j; curve = curves j; services = services j; start_up = starts j; ramp = ramps j }

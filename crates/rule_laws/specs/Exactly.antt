@@ -1,7 +1,7 @@
 -- When each fault of the rules is answered: its condition in fields of bid, card and day, and the order of the checks. Assumes nothing.
 use Rattle.std.specs.Prelude.{◌≡◌, ℕ, zero, suc, ◌+◌, ◌*◌, ◌<◌, ◌≤◌, Bool, true, false, cond, ◌||◌, ◌⊎◌, List, [], ◌∷◌, length, ℤ, pos, ◌<ℤ◌, is_some, Some, None, Option, ◌==◌, ◌≢◌, nat_le, slice_index_or}
 use Rattle.std.specs.Int.{int_min}
-use Rattle.faults.specs.Answers.{answered, resultAnswer}
+use Rattle.faults.specs.Answers.{answered, result_answer}
 use Rattle.wire.specs.Rows.{entries}
 use Rattle.bid.specs.declared.components.Components.{Components}
 use Rattle.bid.specs.declared.components.Curve.{Curve}
@@ -102,7 +102,7 @@ BreaksFirst coordinator m b n p = Breaks coordinator m b n p × ((n' p' : ℕ) �
 
 -- a fault is answered, with its number, layer and place, exactly when its condition holds first; a bid is granted exactly when none holds
 pub record ExactlyThen (coordinator : ℕ) (m : Meaning) (b : Components) : Type 0 where
-  pub denied : (n l p : ℕ) → resultAnswer (ruled coordinator m b) ≡ answered n l p → 0 < n → (l ≡ layer_of n) × BreaksFirst coordinator m b n p
-  pub answers : (n p : ℕ) → BreaksFirst coordinator m b n p → resultAnswer (ruled coordinator m b) ≡ answered n (layer_of n) p
-  pub granted : (resultAnswer (ruled coordinator m b)).number ≡ 0 → (n p : ℕ) → Breaks coordinator m b n p → ⊥
-  pub passes : ((n p : ℕ) → Breaks coordinator m b n p → ⊥) → resultAnswer (ruled coordinator m b) ≡ answered 0 0 0
+  pub denied : (n l p : ℕ) → result_answer (ruled coordinator m b) ≡ answered n l p → 0 < n → (l ≡ layer_of n) × BreaksFirst coordinator m b n p
+  pub answers : (n p : ℕ) → BreaksFirst coordinator m b n p → result_answer (ruled coordinator m b) ≡ answered n (layer_of n) p
+  pub granted : (result_answer (ruled coordinator m b)).number ≡ 0 → (n p : ℕ) → Breaks coordinator m b n p → ⊥
+  pub passes : ((n p : ℕ) → Breaks coordinator m b n p → ⊥) → result_answer (ruled coordinator m b) ≡ answered 0 0 0

@@ -35,4 +35,4 @@ rows_put put (x ∷ xs) out at = then_put (put x out at) (rows_put put xs)
 
 -- two fields of a value, one after the other
 abbrev pub pair_put : {A B C : Type 0} → (C → A) → (C → B) → (A → List ℕ → ℕ → Written) → (B → List ℕ → ℕ → Written) → C → List ℕ → ℕ → Written
-pair_put first second putFirst putSecond v out at = then_put (putFirst (first v) out at) (putSecond (second v))
+pair_put first second put_first put_second v out at = then_put (put_first (first v) out at) (put_second (second v))
