@@ -1,22 +1,19 @@
 -- The bid record: reading and writing undo each other, and a fault lies within 178 bytes. Assumes nothing.
-use Rattle.std.proofs.Common.{◌≡◌, ℕ, ◌+◌, ◌-◌, ◌^◌, ◌<◌, ◌≤◌, min, Bool, true, false, cond, ◌&&◌, ltb, leb, ◌⊎◌, List, [], ◌∷◌, ◌++◌, length, get_or, take, drop, is_some, Ok, Err, Option, Result, sym, refl, ap, ◌∙◌, subst, inl, inr, append_assoc, zero-add, arith}
-use Rattle.std.proofs.lemmas.List.{length-append, append-nil, take_at, drop_at, take-append-drop, length-take-le, nil_from_length, length-drop, take_all, drop_all}
+use Rattle.std.proofs.Common.{◌≡◌, ℕ, ◌+◌, ◌^◌, ◌<◌, ◌≤◌, min, Bool, true, false, cond, ltb, List, [], ◌∷◌, ◌++◌, length, take, drop, is_some, Ok, Err, Option, Result, sym, refl, ap, ◌∙◌, subst, inl, inr, append_assoc, zero-add, arith}
+use Rattle.std.proofs.lemmas.List.{length-append, append-nil, take_at, take-append-drop, length-take-le, drop_all}
 use Rattle.std.proofs.lemmas.Bool.{and_parts, and_from, ltb-true, lt-ltb, le-ltb, cond-true, cond-false, cases_lt, both_ways}
 use Rattle.faults.specs.Answers.{answered, answer_of, result_answer}
-use Rattle.faults.specs.declared.Answer.{Answer}
 use Rattle.faults.specs.declared.Fault.{Fault}
 use Rattle.faults.specs.declared.Fault.TheVariants.{Record, Register, Rule, Window}
-use Rattle.faults.specs.declared.RecordFault.{RecordFault}
 use Rattle.faults.specs.declared.RecordFault.TheVariants.{CutShort, UnknownBit, BadCount, OutOfRange, BytesLeftOver}
 use Rattle.wire.specs.Bytes.{Bytes, byte_bytes, word_bytes, long_bytes}
-use Rattle.wire.specs.Laws.{FaultWithin, is_field_fault}
+use Rattle.wire.specs.Laws.{FaultWithin}
 use Rattle.wire.specs.Maps.{stands, map_of}
 use Rattle.wire.specs.Reading.{Read, and_then, byte_at, word_at, map_at, is_map, is_quantity, quantity_at, fault_at}
 use Rattle.wire.specs.Rows.{optional_at, optional_bytes, optional_held}
 use Rattle.wire.specs.Lawful.{number_lawful, map_lawful, quantity_lawful, optional_restores, optional_exact, optional_placed, optional_short, optional_near, near, placed_then, fault_wider}
 use Rattle.wire.proofs.Maps.{stands-map_of, bits_from, map_of_bits, map_of_lt}
-use Rattle.wire.specs.Numbers.{length-bytes_of}
-use Rattle.wire.specs.Steps.{ok_not_err, ok_same, err_same, then_read, then_failed, then_is, drop_on}
+use Rattle.wire.specs.Steps.{ok_not_err, ok_same, then_read, then_is, drop_on}
 use Rattle.bid.specs.declared.components.Components.{Components}
 use Rattle.bid.specs.declared.components.Curve.{Curve}
 use Rattle.bid.specs.declared.components.Ramp.{Ramp}
@@ -25,7 +22,7 @@ use Rattle.bid.specs.declared.components.Services.{Services}
 use Rattle.bid.specs.declared.components.StartUp.{StartUp}
 use Rattle.bid.specs.Fields.{service_bytes, service_held, curve_at, curve_bytes, curve_held, start_up_at, start_up_bytes, start_up_held, ramp_at, ramp_bytes, ramp_held}
 use Rattle.bid.specs.Kept.{services_held, keeps, is_resource, is_hour}
-use Rattle.bid.specs.Record.{last_bit, service_of, services_at, record_at, record_read, presences, services_bytes, record_bytes, IsRecord, ReadsRecords, MoreFollows, TellsBytesLeft}
+use Rattle.bid.specs.Record.{last_bit, service_of, services_at, record_at, record_read, presences, services_bytes, record_bytes, IsRecord, ReadsRecords, TellsBytesLeft}
 use Rattle.bid.specs.FieldLaws.{service_lawful, curve_lawful, start_up_lawful, ramp_lawful}
 
 -- what follows each field

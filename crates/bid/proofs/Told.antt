@@ -1,5 +1,5 @@
 -- What reading and writing a bid tell, from the laws of its record. Assumes nothing.
-use Rattle.std.proofs.Common.{◌≡◌, ℕ, ◌+◌, ◌<◌, ◌≤◌, true, leb, List, [], ◌∷◌, ◌++◌, length, get_or, take, drop, IfOk, Ok, Err, Result, sym, refl, ap, ◌∙◌, subst, zero-add, arith, w8, Fits}
+use Rattle.std.proofs.Common.{◌≡◌, ℕ, ◌+◌, ◌<◌, ◌≤◌, true, leb, List, ◌++◌, length, get_or, take, drop, IfOk, Ok, Err, Result, sym, refl, ap, ◌∙◌, subst, zero-add, arith, w8, Fits}
 use Rattle.std.proofs.ByRecursion.{All-from_get_or}
 use Rattle.std.proofs.lemmas.List.{take_at}
 use Rattle.std.proofs.lemmas.Bool.{cond-true, cond-false, le-leb, lt-leb}
@@ -8,8 +8,8 @@ use Rattle.faults.specs.declared.Fault.{Fault}
 use Rattle.wire.specs.Bytes.{Bytes, byte_bytes, word_bytes, long_bytes}
 use Rattle.wire.specs.Laws.{Puts}
 use Rattle.wire.specs.Maps.{map_of}
-use Rattle.wire.specs.Rows.{optional_bytes, optional_put}
-use Rattle.wire.specs.Writing.{Written, put_at, laid, too_short}
+use Rattle.wire.specs.Rows.{optional_bytes}
+use Rattle.wire.specs.Writing.{put_at, too_short}
 use Rattle.wire.specs.Laid.{puts_bytes, puts_then, puts_optional}
 use Rattle.bid.specs.declared.bid.Bid.{Bid}
 use Rattle.bid.specs.declared.components.Components.{Components}

@@ -1,13 +1,12 @@
 -- The fields of a bid: reading and writing undo each other. Assumes nothing.
-use Rattle.std.specs.Prelude.{◌≡◌, ℕ, ◌<◌, true, ◌&&◌, ℤ, pos, negsuc, nat_le, refl}
-use Rattle.std.proofs.Common.{sym, ap, ◌∙◌, arith}
-use Rattle.std.proofs.lemmas.Bool.{eqb-true, leb-true, and_parts, ltb-true}
+use Rattle.std.specs.Prelude.{◌≡◌, ℕ, true, ℤ, pos, negsuc, nat_le, refl}
+use Rattle.std.proofs.Common.{ap, arith}
+use Rattle.std.proofs.lemmas.Bool.{eqb-true, leb-true, and_parts}
 use Rattle.faults.specs.declared.RecordFault.TheVariants.{OutOfRange}
 use Rattle.wire.specs.Bytes.{long_bytes, word_bytes, signed_bytes}
 use Rattle.wire.specs.Laws.{Lawful, Puts}
-use Rattle.wire.specs.Reading.{is_quantity, is_price}
+use Rattle.wire.specs.Reading.{is_quantity}
 use Rattle.wire.specs.Writing.{put_at}
-use Rattle.wire.specs.declared.counted.Counted.{Counted}
 use Rattle.wire.specs.Rows.{counted_bytes, counted_put}
 use Rattle.wire.proofs.CountedRows.{counted_lawful}
 use Rattle.wire.specs.Laid.{puts_bytes, puts_then, puts_counted}

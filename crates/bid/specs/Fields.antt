@@ -1,10 +1,10 @@
 -- The fields that a bid's components are made of: how each is read, written and held. Assumes nothing.
-use Rattle.std.specs.Prelude.{ℕ, ◌+◌, ◌*◌, Bool, true, false, cond, ◌&&◌, List, [], ◌∷◌, ◌++◌, length, replicate, ℤ, pos, negsuc, ◌==◌, nat_le, nat_lt}
+use Rattle.std.specs.Prelude.{ℕ, Bool, false, ◌&&◌, List, ◌++◌, ℤ, pos, negsuc, ◌==◌, nat_le, nat_lt}
 use Rattle.faults.specs.declared.RecordFault.TheVariants.{OutOfRange}
 use Rattle.wire.specs.declared.counted.Counted.{Counted}
 use Rattle.wire.specs.Bytes.{long_bytes, word_bytes, signed_bytes}
 use Rattle.wire.specs.Reading.{Read, made_at, pair_at, ranged_at, is_quantity, is_price, quantity_at, price_at, rate_at, cost_at, down_time_at}
-use Rattle.wire.specs.Rows.{counted_at, counted_bytes, counted_put, counted_held, all_held}
+use Rattle.wire.specs.Rows.{counted_at, counted_bytes, counted_put, counted_held}
 use Rattle.wire.specs.Writing.{Written, put_at, pair_put}
 use Rattle.bid.specs.declared.components.Step.{Step}
 use Rattle.bid.specs.declared.components.Curve.{Curve}

@@ -1,5 +1,5 @@
 -- The bid record: what reading it gives, and the bytes that it is written in. Assumes nothing.
-use Rattle.std.specs.Prelude.{◌≡◌, ℕ, ◌<◌, ◌≤◌, Bool, true, cond, List, [], ◌∷◌, ◌++◌, length, take, drop, is_some, Ok, Err, Option, Result, nat_le, nat_lt}
+use Rattle.std.specs.Prelude.{◌≡◌, ℕ, ◌<◌, Bool, true, cond, List, [], ◌∷◌, ◌++◌, length, take, drop, is_some, Ok, Err, Option, Result, nat_le, nat_lt}
 use Rattle.faults.specs.Answers.{answered, result_answer}
 use Rattle.faults.specs.declared.Fault.{Fault}
 use Rattle.faults.specs.declared.RecordFault.TheVariants.{BytesLeftOver}
@@ -9,11 +9,8 @@ use Rattle.wire.specs.Reading.{Read, and_then, byte_at, word_at, map_at, quantit
 use Rattle.wire.specs.Rows.{optional_at, optional_bytes, optional_put}
 use Rattle.wire.specs.Writing.{Written, put_at, then_put, too_short}
 use Rattle.bid.specs.declared.components.Components.{Components}
-use Rattle.bid.specs.declared.components.Curve.{Curve}
-use Rattle.bid.specs.declared.components.Ramp.{Ramp}
 use Rattle.bid.specs.declared.components.Service.{Service}
 use Rattle.bid.specs.declared.components.Services.{Services}
-use Rattle.bid.specs.declared.components.StartUp.{StartUp}
 use Rattle.bid.specs.Fields.{service_at, service_bytes, service_put, curve_at, curve_bytes, curve_put, start_up_at, start_up_bytes, start_up_put, ramp_at, ramp_bytes, ramp_put}
 use Rattle.bid.specs.Kept.{keeps}
 

@@ -1,4 +1,6 @@
 // A bid for one resource and hour, and its record.
+#![tactic(auto)]
+
 pub mod bid;
 pub mod components;
 pub mod fields;

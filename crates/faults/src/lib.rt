@@ -1,4 +1,6 @@
 // Why something was refused: one fault type for every layer, and the numbers that it answers.
+#![tactic(auto)]
+
 ghost use Rattle.std.specs.Prelude.{◌≡◌};
 ghost use Rattle.faults.specs.Answers.{record_number, register_number, rule_number, window_number, answer_of};
 

@@ -1,17 +1,16 @@
 -- Rows of numbered cards: checked one at a time, kept, and looked up by place. Assumes nothing.
-use Rattle.std.proofs.Common.{◌≡◌, ℕ, zero, suc, ◌+◌, ◌<◌, ◌≤◌, Bool, true, false, cond, ◌&&◌, eqb, ltb, leb, ◌⊎◌, List, [], ◌∷◌, length, get_or, Some, None, Ok, Err, Option, Result, sym, refl, ap, ◌∙◌, subst, inl, inr, arith}
+use Rattle.std.proofs.Common.{◌≡◌, ℕ, zero, suc, ◌+◌, ◌<◌, ◌≤◌, true, false, ◌&&◌, eqb, ltb, leb, ◌⊎◌, List, [], ◌∷◌, length, get_or, Some, None, Ok, Err, Option, sym, refl, ap, ◌∙◌, subst, inl, inr, arith}
 use Rattle.std.proofs.lemmas.Bool.{cases_Bool, cond-true, cond-false, and_parts, and_from, ltb-true, lt-ltb, leb-true, eqb-true, eq-eqb, ne_eqb, cases_eq, cases_lt}
 use Rattle.std.proofs.lemmas.List.{get_or_default}
-use Rattle.faults.specs.declared.Fault.{Fault}
 use Rattle.wire.specs.Rows.{all_held}
 use Rattle.wire.specs.Steps.{ok_not_err}
 use Rattle.register.specs.declared.data.Card.{Card}
 use Rattle.register.specs.declared.data.Day.{Day}
 use Rattle.register.specs.declared.data.NumberedCard.{NumberedCard}
 use Rattle.register.specs.Cards.{tidied, with_rows, blank_card}
-use Rattle.register.specs.CardRow.{number_of, numbered_kept, may_stand, row_kept, cards_checked, row_checked, breach_at, card_in, row_meaning}
+use Rattle.register.specs.CardRow.{number_of, numbered_kept, may_stand, row_kept, cards_checked, breach_at, card_in, row_meaning}
 use Rattle.register.specs.Kept.{day_kept, card_kept, rises_from, rises}
-use Rattle.register.specs.Meaning.{Meaning, Held, Keeps}
+use Rattle.register.specs.Meaning.{Held, Keeps}
 use Rattle.register.specs.Rows.{NotLower}
 use Rattle.register.proofs.Rising.{in_order}
 use Rattle.register.proofs.Packing.{tidied-tidied, tidied_kept}

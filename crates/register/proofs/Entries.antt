@@ -1,6 +1,6 @@
 -- Start-up pairs and ramp rows, one at a time. Assumes nothing.
-use Rattle.std.proofs.Common.{◌≡◌, ℕ, ◌<◌, ◌≤◌, Bool, true, false, ◌&&◌, eqb, ltb, leb, ◌⊎◌, List, [], ◌∷◌, sym, refl, ap, ◌∙◌, inl, inr}
-use Rattle.std.proofs.lemmas.Bool.{cases_lt, and_from, and_left, and_right}
+use Rattle.std.proofs.Common.{◌≡◌, ℕ, Bool, true, false, ◌&&◌, ltb, ◌⊎◌, List, ◌∷◌, inl, inr}
+use Rattle.std.proofs.lemmas.Bool.{and_left, and_right}
 use Rattle.wire.specs.Rows.{all_held}
 use Rattle.register.specs.declared.data.StartUpLimit.{StartUpLimit}
 use Rattle.register.specs.declared.data.RampLimits.{RampLimits}

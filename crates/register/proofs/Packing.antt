@@ -1,9 +1,8 @@
 -- Cards with zeros past their counts say the same. Assumes nothing.
-use Rattle.std.proofs.Common.{◌≡◌, ℕ, ◌+◌, ◌-◌, ◌<◌, ◌≤◌, min, true, leb, List, [], ◌∷◌, ◌++◌, length, get_or, take, drop, set, replicate, sym, refl, ap, ◌∙◌, subst, arith}
+use Rattle.std.proofs.Common.{◌≡◌, ℕ, ◌+◌, ◌-◌, ◌<◌, min, true, leb, List, [], ◌∷◌, ◌++◌, length, get_or, take, drop, set, replicate, sym, refl, ap, ◌∙◌, arith}
 use Rattle.std.proofs.lemmas.List.{take_at, length-take, length-set, take_more, take_more_set, take-append-drop, drop-drop, drop-set-lt, drop-replicate}
 use Rattle.std.proofs.lemmas.Bool.{leb-true, le-leb}
 use Rattle.wire.proofs.Rows.{take_standing}
-use Rattle.wire.specs.declared.counted.Counted.{Counted}
 use Rattle.wire.specs.Rows.{entries, packed}
 use Rattle.register.specs.declared.data.Card.{Card}
 use Rattle.register.specs.Cards.{blank_limit, blank_limits, packed_start_up, packed_ramp, with_rows, tidied}

@@ -1,5 +1,5 @@
 -- What every day and every card keeps. Assumes nothing.
-use Rattle.std.specs.Prelude.{ℕ, Bool, true, false, ◌&&◌, List, [], ◌∷◌, ℤ, pos, ◌==◌, int_le, nat_le, nat_lt}
+use Rattle.std.specs.Prelude.{ℕ, Bool, true, ◌&&◌, List, [], ◌∷◌, pos, ◌==◌, int_le, nat_le, nat_lt}
 use Rattle.wire.specs.Reading.{is_quantity, is_price}
 use Rattle.wire.specs.Rows.{entries, all_held}
 use Rattle.register.specs.declared.data.Card.{Card}

@@ -1,8 +1,7 @@
 -- Start-up pairs and ramp rows as fields. Assumes nothing.
-use Rattle.std.specs.Prelude.{◌≡◌, ℕ, true, ◌&&◌, List, ◌++◌, Ok, Err, Result, ◌==◌, refl}
-use Rattle.std.proofs.Common.{sym, ap, subst, ◌∙◌}
+use Rattle.std.specs.Prelude.{◌≡◌, ℕ, true, ◌&&◌, List, ◌++◌, Ok, Err, ◌==◌, refl}
+use Rattle.std.proofs.Common.{ap, subst, ◌∙◌}
 use Rattle.std.proofs.lemmas.Bool.{and_parts, eqb-true}
-use Rattle.faults.specs.declared.Fault.{Fault}
 use Rattle.wire.specs.Bytes.{word_bytes, long_bytes}
 use Rattle.wire.specs.Laws.{Lawful, Puts}
 use Rattle.wire.specs.Reading.{Read, and_then, pair_at, quantity_at, rate_at}

@@ -1,4 +1,6 @@
 // What is registered for a day and for each resource, what a register means, and cards in memory as a register.
+#![tactic(auto)]
+
 pub mod data;
 pub mod kept;
 pub mod limits;

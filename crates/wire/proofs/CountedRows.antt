@@ -1,15 +1,14 @@
 -- Counted rows of a field: reading and writing undo each other. Assumes nothing.
-use Rattle.std.proofs.Common.{◌≡◌, ℕ, zero, suc, ◌+◌, ◌-◌, ◌*◌, ◌<◌, ◌≤◌, min, Bool, true, false, cond, ◌&&◌, eqb, leb, ◌⊎◌, List, [], ◌∷◌, ◌++◌, length, take, drop, replicate, Ok, Err, sym, refl, ap, ◌∙◌, subst, inl, inr, append_assoc, add-zero, add_assoc, mul-le-mul_right, suc-mul, arith}
+use Rattle.std.proofs.Common.{◌≡◌, ℕ, zero, suc, ◌+◌, ◌-◌, ◌*◌, ◌≤◌, min, Bool, true, ◌&&◌, eqb, leb, List, [], ◌∷◌, ◌++◌, length, drop, replicate, Ok, Err, sym, refl, ap, ◌∙◌, subst, inl, inr, append_assoc, add-zero, add_assoc, mul-le-mul_right, suc-mul, arith}
 use Rattle.std.proofs.lemmas.List.{append-nil, take_at, drop_at, length-append, length-take-le, length-drop, length-replicate, take-append-drop}
-use Rattle.std.proofs.lemmas.Bool.{leb-true, le-leb, eqb-true, eq-eqb, and_parts, and_from}
+use Rattle.std.proofs.lemmas.Bool.{leb-true, eqb-true, eq-eqb, and_parts, and_from}
 use Rattle.std.specs.List.{flat_map}
 use Rattle.faults.specs.declared.Fault.{Fault}
 use Rattle.wire.specs.declared.counted.Counted.{Counted}
 use Rattle.wire.specs.Bytes.{Bytes, bytes_of}
 use Rattle.wire.specs.Laws.{Lawful, FaultWithin}
-use Rattle.wire.specs.Reading.{Read, and_then, is_count, count_at}
+use Rattle.wire.specs.Reading.{Read, is_count, count_at}
 use Rattle.wire.specs.Rows.{entries, packed, packed_at, counted_at, counted_bytes, all_held, counted_held}
-use Rattle.wire.specs.Numbers.{length-bytes_of}
 use Rattle.wire.specs.Lawful.{count_lawful, fault_wider}
 use Rattle.wire.specs.Steps.{ok_not_err, ok_same, then_read, then_failed, then_is, drop_on}
 

@@ -1,14 +1,14 @@
 -- Bytes laid over memory one after another. Assumes nothing.
-use Rattle.std.specs.Prelude.{◌≡◌, ℕ, ◌+◌, ◌-◌, ◌<◌, ◌≤◌, true, false, cond, List, [], ◌∷◌, ◌++◌, length, take, drop, Some, None, Ok, Err, Option, nat_le, refl}
-use Rattle.std.proofs.Common.{sym, ap, subst, ◌∙◌, append_assoc, add_assoc, add-zero, arith}
+use Rattle.std.specs.Prelude.{◌≡◌, ℕ, ◌+◌, ◌≤◌, List, [], ◌∷◌, ◌++◌, length, take, drop, Some, None, Ok, Option, nat_le}
+use Rattle.std.proofs.Common.{sym, ap, ◌∙◌, append_assoc, add_assoc, add-zero, arith}
 use borrow.Rule.Slice.PartMut.{put_mid}
-use Rattle.std.proofs.lemmas.List.{drop-drop, length-append, length-take-le, length-drop, take_all, append-nil, take-append-drop, take_at, drop_at}
+use Rattle.std.proofs.lemmas.List.{drop-drop, length-append, length-take-le, length-drop, take-append-drop, take_at, drop_at}
 use Rattle.std.proofs.lemmas.Bool.{le-leb, cond-true}
 use Rattle.std.specs.List.{flat_map}
 use Rattle.wire.specs.declared.counted.Counted.{Counted}
 use Rattle.wire.specs.Bytes.{bytes_of}
 use Rattle.wire.specs.Rows.{entries, counted_put, counted_bytes, optional_put, optional_bytes}
-use Rattle.wire.specs.Writing.{Written, laid, put_at, then_put, rows_put, too_short}
+use Rattle.wire.specs.Writing.{Written, laid, put_at, then_put, rows_put}
 use Rattle.wire.specs.Laws.{Puts}
 
 pub fits : (bs out : List ℕ) (at : ℕ) → at + length bs ≤ length out → put_at bs out at ≡ (Ok (at + length bs), laid bs out at)

@@ -1,7 +1,7 @@
 -- Fields whose reading and writing undo each other, and how such fields are put together. Assumes nothing.
-use Rattle.std.specs.Prelude.{◌≡◌, ℕ, zero, suc, ◌+◌, ◌-◌, ◌*◌, ◌^◌, ◌<◌, ◌≤◌, min, Bool, true, false, cond, ◌&&◌, ◌⊎◌, List, [], ◌∷◌, ◌++◌, length, take, drop, ℤ, pos, negsuc, is_some, Some, None, Ok, Err, Option, Result, FitsSigned, nat_le, nat_lt, refl}
+use Rattle.std.specs.Prelude.{◌≡◌, ℕ, ◌+◌, ◌-◌, ◌^◌, ◌<◌, ◌≤◌, min, Bool, true, false, ◌&&◌, ◌⊎◌, List, ◌++◌, length, take, drop, ℤ, pos, negsuc, is_some, Some, None, Ok, Err, Option, Result, FitsSigned, nat_le, nat_lt, refl}
 use Rattle.std.proofs.Math.Path.{sym, ap}
-use Rattle.std.proofs.Common.{subst, ◌∙◌, ⊎_elim, add-zero, arith, to_z, of_z}
+use Rattle.std.proofs.Common.{subst, ◌∙◌, add-zero, arith}
 use mathlib.Core.List.{append_assoc}
 use Rattle.std.proofs.Math.Logic.{inl, inr}
 use Rattle.std.proofs.Math.Nat.{add_assoc, pow-le-pow_right}
@@ -9,15 +9,15 @@ use Rattle.std.specs.Int.{w32}
 use Rattle.std.proofs.ByRecursion.{All-take, All-drop}
 use Rattle.std.proofs.lemmas.List.{drop-drop, take_at, length-append, length-drop, length-take-le, take-append-drop}
 use Rattle.std.proofs.lemmas.Int.{to_z-of_z, of_z-to_z, ints}
-use Rattle.std.proofs.lemmas.Bool.{le-leb, lt-leb, ltb-true, lt-ltb, leb-true, cond-true, cond-false, cases_lt, cases_Bool, and_parts, and_from}
+use Rattle.std.proofs.lemmas.Bool.{lt-leb, ltb-true, lt-ltb, leb-true, cond-true, cond-false, cases_lt, cases_Bool, and_parts, and_from}
 use Rattle.faults.specs.declared.Fault.{Fault}
 use Rattle.faults.specs.declared.Fault.TheVariants.{Record, Register, Rule, Window}
 use Rattle.faults.specs.declared.RecordFault.{RecordFault}
 use Rattle.faults.specs.declared.RecordFault.TheVariants.{CutShort, UnknownBit, BadCount, OutOfRange}
 use Rattle.wire.specs.Bytes.{Bytes, big_endian, bytes_of, long_bytes, signed_of, bits_of, signed_bytes}
-use Rattle.wire.specs.Laws.{Lawful, FaultWithin, is_field_fault, Puts}
+use Rattle.wire.specs.Laws.{Lawful, FaultWithin, is_field_fault}
 use Rattle.wire.specs.Rows.{optional_at, optional_bytes, optional_held, OptionalUndone}
-use Rattle.wire.specs.Reading.{Read, and_then, number_at, ranged, ranged_at, is_price, price_at, is_quantity, quantity_at, is_count, count_at, is_map, map_at, byte_at, long_at, made_at, pair_at, fault_at, place_of}
+use Rattle.wire.specs.Reading.{Read, and_then, number_at, ranged, ranged_at, is_price, price_at, is_quantity, quantity_at, is_count, count_at, is_map, map_at, long_at, made_at, pair_at, fault_at}
 use Rattle.wire.specs.Numbers.{number_stands, number_bytes_of, bytes_of_number, length-bytes_of, big_endian_lt}
 use Rattle.wire.specs.Steps.{ok_not_err, ok_same, err_same, then_read, then_failed, then_is, drop_on}
 

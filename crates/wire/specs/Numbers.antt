@@ -1,12 +1,11 @@
 -- Numbers in bytes: reading and writing undo each other, at every width. Assumes nothing.
-use Rattle.std.specs.Prelude.{◌≡◌, ℕ, zero, suc, ◌+◌, ◌-◌, ◌*◌, ◌/◌, ◌%◌, ◌^◌, ◌<◌, ◌≤◌, true, cond, List, [], ◌∷◌, ◌++◌, length, take, drop, Ok, Err, nat_le, slice_index, slice_index_or, refl}
-use Rattle.std.proofs.Common.{sym, ap, subst, ◌∙◌, div-add-mod', mod-lt, mod-eq_of_lt, add-zero, pow-suc, suc-mul, mul_comm, mul-le-mul_right, add-one, arith}
+use Rattle.std.specs.Prelude.{◌≡◌, ℕ, zero, suc, ◌+◌, ◌-◌, ◌*◌, ◌/◌, ◌%◌, ◌^◌, ◌<◌, ◌≤◌, List, [], ◌∷◌, length, take, drop, Ok, nat_le, slice_index, slice_index_or, refl}
+use Rattle.std.proofs.Common.{sym, ap, ◌∙◌, div-add-mod', mod-lt, mod-eq_of_lt, add-zero, pow-suc, suc-mul, mul_comm, mul-le-mul_right, arith}
 use Rattle.std.proofs.Math.Nat.{mul-add-div_right, mul-add-mod_self_right, div-eq_of_lt, one-le-pow}
 use Rattle.std.proofs.lemmas.List.{drop_more}
 use Rattle.std.proofs.lemmas.Bool.{le-leb, cond-true}
-use Rattle.std.specs.List.{AllByRecursion as All}
 use Rattle.wire.specs.Bytes.{Bytes, big_endian, bytes_of}
-use Rattle.wire.specs.Reading.{Read, number_at, fault_at}
+use Rattle.wire.specs.Reading.{number_at}
 
 pow_pos : (n : ℕ) → 0 < 256 ^ n
 pow_pos n = one-le-pow n 256 (omega arith)

@@ -1,5 +1,5 @@
 -- What reading a field at a place of some bytes gives: its value and the place after it, or a fault and where it is. Assumes nothing.
-use Rattle.std.specs.Prelude.{ℕ, ◌+◌, ◌-◌, ◌^◌, min, Bool, true, false, cond, ◌&&◌, List, length, take, drop, ℤ, pos, negsuc, Ok, Err, Result, int_le, nat_le, nat_lt}
+use Rattle.std.specs.Prelude.{ℕ, ◌+◌, ◌-◌, ◌^◌, min, Bool, cond, ◌&&◌, List, length, take, drop, ℤ, pos, negsuc, Ok, Err, Result, int_le, nat_le, nat_lt}
 use Rattle.faults.specs.declared.Fault.{Fault}
 use Rattle.faults.specs.declared.Fault.TheVariants.{Record}
 use Rattle.faults.specs.declared.RecordFault.{RecordFault}

@@ -1,5 +1,5 @@
 -- Counted rows of a field in a fixed array, and a field that a bit of the map may leave out. Assumes nothing.
-use Rattle.std.specs.Prelude.{◌≡◌, ℕ, zero, suc, ◌+◌, ◌-◌, ◌*◌, Bool, true, false, cond, ◌&&◌, List, [], ◌∷◌, ◌++◌, length, take, drop, replicate, is_some, Some, None, Ok, Err, Option, ◌==◌}
+use Rattle.std.specs.Prelude.{◌≡◌, ℕ, zero, suc, ◌+◌, ◌-◌, Bool, true, cond, ◌&&◌, List, [], ◌∷◌, ◌++◌, length, take, drop, replicate, is_some, Some, None, Ok, Option, ◌==◌}
 use Rattle.std.specs.List.{flat_map}
 use Rattle.wire.specs.declared.counted.Counted.{Counted}
 use Rattle.wire.specs.Bytes.{Bytes, byte_bytes}

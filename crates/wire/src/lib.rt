@@ -1,4 +1,6 @@
 // Big-endian fields of records and register files, read at any place of any bytes and written into lent memory.
+#![tactic(auto)]
+
 ghost use Rattle.std.specs.Prelude.{◌≡◌};
 ghost use Rattle.wire.specs.Maps.{stands};
 

@@ -1,4 +1,4 @@
-use Rattle.std.proofs.Common.{◌≡◌, ◌<◌, false, eqb, ltb, sym, ap, ◌∙◌, arith}
+use Rattle.std.proofs.Common.{◌<◌, eqb, sym, ap, ◌∙◌, arith}
 use Rattle.std.proofs.lemmas.Bool.{le-ltb}
 use Rattle.wire.proofs.Maps.{lowest, none_above}
 use Rattle.wire.proofs.stands_in.Goals as goal

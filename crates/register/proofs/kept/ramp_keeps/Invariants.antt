@@ -1,4 +1,4 @@
-use Rattle.std.proofs.Common.{◌≡◌, length, drop}
+use Rattle.std.proofs.Common.{◌≡◌, drop}
 use Rattle.register.specs.Kept.{ramp_kept}
 use Rattle.register.proofs.Entries.{rows_behind}
 use Rattle.register.proofs.kept.ramp_keeps.Given as goal

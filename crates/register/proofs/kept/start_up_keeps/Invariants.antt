@@ -1,4 +1,4 @@
-use Rattle.std.proofs.Common.{◌≡◌, ◌≤◌, length, drop}
+use Rattle.std.proofs.Common.{◌≡◌, drop}
 use Rattle.register.specs.Kept.{start_up_kept}
 use Rattle.register.proofs.Entries.{pairs_behind}
 use Rattle.register.proofs.kept.start_up_keeps.Given as goal

@@ -1,4 +1,4 @@
-use Rattle.std.proofs.Common.{◌≡◌, sym, ap, ◌∙◌}
+use Rattle.std.proofs.Common.{ap, ◌∙◌}
 use Rattle.wire.specs.Bytes.{byte_bytes}
 use Rattle.wire.specs.Rows.{entries}
 use Rattle.wire.specs.Writing.{put_at, rows_put}

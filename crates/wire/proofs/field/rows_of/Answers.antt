@@ -1,4 +1,4 @@
-use Rattle.std.proofs.Common.{◌≡◌, ◌-◌, length, take, ap, ◌∙◌, arith}
+use Rattle.std.proofs.Common.{◌-◌, length, ap, arith}
 use Rattle.wire.proofs.Rows.{take_standing}
 use Rattle.wire.proofs.field.rows_of.Goals as goal
 

@@ -1,5 +1,4 @@
 use Rattle.std.proofs.Common.{◌≡◌, ◌-◌, ◌≤◌, length, take, replicate, sym, ap, ◌∙◌, arith, rules}
-use lib.ListN.{length-replicate}
 use Rattle.std.proofs.lemmas.List.{take_at}
 use Rattle.wire.specs.Steps.{ok_not_err}
 use Rattle.bid.specs.Record.{record_bytes, record_read}

@@ -1,4 +1,4 @@
-use Rattle.std.proofs.Common.{◌≡◌, ◌<◌, ◌≤◌, length, take, Ok, Err, sym, ap, ◌∙◌, arith}
+use Rattle.std.proofs.Common.{◌<◌, ◌≤◌, length, take, sym, ap, ◌∙◌, arith}
 use Rattle.wire.specs.Steps.{ok_not_err, ok_same}
 use Rattle.bid.specs.Record.{record_bytes, record_read}
 use Rattle.bid.proofs.Told.{put_front, written_fits, written_short, front_restores, written_within}

@@ -1,5 +1,5 @@
-use Rattle.std.proofs.Common.{◌≡◌, ◌<◌, ◌⊎◌, length, get_or, is_some, Some, None, sym, ap, ◌∙◌, inl, inr, arith}
-use Rattle.register.specs.CardRow.{number_of, card_in}
+use Rattle.std.proofs.Common.{◌≡◌, ◌<◌, ◌⊎◌, length, get_or, is_some, sym, ap, ◌∙◌, inl, inr, arith}
+use Rattle.register.specs.CardRow.{number_of}
 use Rattle.register.specs.Meaning.{card_or}
 use Rattle.register.proofs.CardRows.{no_card, row_rises, row_keeps, not_found, is_found}
 use Rattle.register.proofs.row_register.CardRowRegister.look.Goals as goal
