@@ -1,6 +1,6 @@
 -- The first broken check, of lists put together. Assumes nothing.
-use Rattle.std.proofs.Common.{◌≡◌, ℕ, ◌+◌, ◌<◌, ◌≤◌, Bool, true, false, cond, List, [], ◌∷◌, ◌++◌, length, get_or, drop, Ok, Err, sym, refl, ap, ◌∙◌}
-use Rattle.std.proofs.lemmas.List.{drop_more, drop_all}
+use Rattle.std.proofs.Common.{◌≡◌, ℕ, ◌+◌, ◌<◌, Bool, true, false, cond, List, [], ◌∷◌, ◌++◌, length, get_or, drop, Ok, Err, sym, refl, ap, ◌∙◌}
+use Rattle.std.proofs.lemmas.List.{drop_more}
 use Rattle.faults.specs.declared.Fault.{Fault}
 use Rattle.checks.specs.Checks.{Check, Passed, first_broken, checks, filing_checks, self_schedule_checks, curve_checks, service_checks, services_checks, start_up_checks, ramp_checks}
 use Rattle.checks.specs.Passing.{in_turn, services_passed, checks_passed}

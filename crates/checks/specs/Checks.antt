@@ -1,5 +1,5 @@
 -- The checks of a bid in their order: each a fault with its place, and whether it is broken. Assumes nothing.
-use Rattle.std.specs.Prelude.{ℕ, ◌+◌, Bool, true, false, cond, not, ◌||◌, List, [], ◌∷◌, ◌++◌, length, ℤ, pos, Some, None, Ok, Err, Option, Result, ◌==◌, int_lt, nat_le, nat_lt}
+use Rattle.std.specs.Prelude.{ℕ, ◌+◌, Bool, cond, not, ◌||◌, List, [], ◌∷◌, ◌++◌, length, pos, Some, None, Ok, Err, Option, Result, ◌==◌, int_lt, nat_le, nat_lt}
 use Rattle.faults.specs.declared.Fault.{Fault}
 use Rattle.faults.specs.declared.Fault.TheVariants.{Register, Rule}
 use Rattle.faults.specs.declared.RegisterFault.TheVariants.{NotTheOwner, NoSuchHour}

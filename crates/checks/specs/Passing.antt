@@ -1,8 +1,7 @@
 -- The checks group after group, as the code runs them. Assumes nothing.
-use Rattle.std.specs.Prelude.{ℕ, cond, not, eqb, length, Some, None, Ok, Err, Option}
+use Rattle.std.specs.Prelude.{ℕ, Ok, Err}
 use Rattle.wire.specs.Rows.{entries}
 use Rattle.bid.specs.declared.components.Components.{Components}
-use Rattle.bid.specs.declared.components.Curve.{Curve}
 use Rattle.bid.specs.declared.components.Services.{Services}
 use Rattle.register.specs.declared.data.Card.{Card}
 use Rattle.register.specs.declared.data.Day.{Day}

@@ -1,4 +1,6 @@
 // The checks of a bid against its card and day, and the quantities and prices that the rules speak of.
+#![tactic(auto)]
+
 mod filing;
 mod pairs;
 mod steps;

@@ -1,5 +1,5 @@
 -- Steps of a curve: the last one, one more, and the price and end at which they stop. Assumes nothing.
-use Rattle.std.proofs.Common.{◌≡◌, ℕ, zero, suc, ◌+◌, ◌-◌, ◌<◌, ◌≤◌, min, Bool, true, false, cond, ◌&&◌, ltb, leb, List, [], ◌∷◌, ◌++◌, map, length, get_or, take, drop, set, replicate, ℤ, Some, None, Ok, Err, Option, Result, sym, refl, ap, ◌∙◌, subst, append_assoc, arith}
+use Rattle.std.proofs.Common.{◌≡◌, ℕ, suc, ◌+◌, ◌-◌, ◌<◌, ◌≤◌, min, true, false, ltb, leb, List, [], ◌∷◌, ◌++◌, map, length, get_or, set, replicate, ℤ, Some, None, Ok, Err, Option, Result, sym, refl, ap, ◌∙◌, subst, append_assoc, arith}
 use lib.Signed.{le_z}
 use Rattle.std.proofs.lemmas.List.{set-append_left, set_at, take_at, length-map, length-append, length-set, get_or_append_left}
 use Rattle.std.proofs.lemmas.Bool.{leb-true, and_parts, cond-true, cond-false, lt-ltb, le-ltb}

@@ -15,7 +15,6 @@ use Rattle.bid.specs.declared.components.Step.{Step}
 use Rattle.bid.specs.Fields.{step, curve, service, blank_step}
 use Rattle.register.specs.declared.data.Card.{Card}
 use Rattle.register.specs.declared.data.Day.{Day}
-use Rattle.register.specs.declared.data.Regulation.{Regulation}
 use Rattle.checks.specs.Terms.{top, base, ceiling, extension_price, free, need, steps_of, curve_end}
 
 -- a curve from a start with these steps

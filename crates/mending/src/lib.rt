@@ -1,4 +1,6 @@
 // Mending a bid that passes the checks, and marking where the row differs from the filing.
+#![tactic(auto)]
+
 mod curves;
 mod marking;
 mod row;

@@ -1,4 +1,6 @@
 // Levels raised over any register, as a register.
+#![tactic(auto)]
+
 pub mod level;
 mod level_table;
 mod levels;

@@ -1,10 +1,10 @@
 -- What an accepted file holds, and how a card is found in it. Assumes nothing.
-use Rattle.std.proofs.Common.{◌≡◌, ℕ, zero, suc, ◌+◌, ◌-◌, ◌<◌, ◌≤◌, Bool, true, false, cond, ◌&&◌, eqb, ltb, leb, ◌⊎◌, List, [], ◌∷◌, ◌++◌, map, length, is_some, is_ok, Some, None, Ok, Err, Option, Result, sym, refl, ap, ◌∙◌, subst, inl, inr, arith}
-use Rattle.std.proofs.lemmas.Bool.{cases_Bool, cond-true, cond-false, and_parts, leb-true, ltb-true, ltb-false, eqb-true, eqb-false, ne_eqb, both_ways, lt-ltb, le-ltb, eq-eqb}
+use Rattle.std.proofs.Common.{◌≡◌, ℕ, zero, suc, ◌+◌, ◌-◌, ◌<◌, ◌≤◌, Bool, true, false, cond, eqb, ltb, leb, List, [], ◌∷◌, length, is_ok, Some, None, Ok, Err, Option, Result, sym, refl, ap, ◌∙◌, subst, inl, inr, arith}
+use Rattle.std.proofs.lemmas.Bool.{cases_Bool, cond-true, cond-false, and_parts, leb-true, ltb-true, ltb-false, ne_eqb, both_ways, lt-ltb, le-ltb, eq-eqb}
 use Rattle.faults.specs.declared.Fault.{Fault}
 use Rattle.wire.specs.declared.counted.Counted.{Counted}
 use Rattle.wire.specs.Bytes.{Bytes}
-use Rattle.wire.specs.Reading.{Read, and_then, word_at}
+use Rattle.wire.specs.Reading.{Read, word_at}
 use Rattle.wire.specs.Rows.{entries, packed, counted_held}
 use Rattle.wire.proofs.CountedRows.{packed-entries}
 use Rattle.wire.specs.Lawful.{number_lawful}
@@ -13,9 +13,9 @@ use Rattle.register.specs.declared.data.Card.{Card}
 use Rattle.register.specs.declared.data.Day.{Day}
 use Rattle.register_file.specs.declared.standing.Standing.{Standing}
 use Rattle.register.specs.Cards.{blank_limit, blank_limits, with_rows, tidied}
-use Rattle.register.specs.CardRow.{numbered_kept, may_stand, cards_checked, row_checked, row_kept, breach_at, card_in, row_meaning}
+use Rattle.register.specs.CardRow.{numbered_kept, may_stand, cards_checked, row_checked, card_in, row_meaning}
 use Rattle.register_file.specs.Fields.{day_at, standing_at}
-use Rattle.register.specs.Limits.{limit_bytes, limits_bytes, limits_held, is_blank_limit, is_blank_limits}
+use Rattle.register.specs.Limits.{limits_held, is_blank_limit, is_blank_limits}
 use Rattle.register_file.specs.File.{Contents, before, cards_at, ending_at, file_at, cards_of, contents_meaning, file_meaning, answer_only}
 use Rattle.register_file.specs.FileLaws.{ReadAsRow}
 use Rattle.register.specs.Kept.{day_kept, is_limit}

@@ -1,19 +1,18 @@
 -- Where the faults of a file lie. Assumes nothing.
-use Rattle.std.proofs.Common.{◌≡◌, ℕ, zero, suc, ◌+◌, ◌-◌, ◌*◌, ◌<◌, ◌≤◌, min, Bool, true, false, cond, ltb, leb, ◌⊎◌, List, [], ◌∷◌, length, Ok, Err, Result, sym, refl, ap, ◌∙◌, subst, inl, inr, suc-mul, arith}
+use Rattle.std.proofs.Common.{◌≡◌, ℕ, zero, suc, ◌+◌, ◌-◌, ◌*◌, ◌<◌, ◌≤◌, leb, List, length, Ok, Err, sym, ap, ◌∙◌, subst, inl, inr, suc-mul, arith}
 use Rattle.std.proofs.lemmas.Bool.{cases_Bool, cond-true, cond-false, ltb-true}
 use Rattle.faults.specs.declared.Fault.{Fault}
 use Rattle.faults.specs.declared.Fault.TheVariants.{Record, Register, Rule, Window}
-use Rattle.faults.specs.declared.RecordFault.TheVariants.{BytesLeftOver}
 use Rattle.wire.specs.Bytes.{Bytes}
 use Rattle.wire.specs.Laws.{FaultWithin}
-use Rattle.wire.specs.Reading.{Read, and_then, fault_at, word_at}
+use Rattle.wire.specs.Reading.{word_at}
 use Rattle.wire.specs.Lawful.{number_lawful}
-use Rattle.wire.specs.Steps.{ok_not_err, ok_same, err_same, then_read, then_failed}
+use Rattle.wire.specs.Steps.{ok_not_err, ok_same, err_same, then_failed}
 use Rattle.register.specs.declared.data.Day.{Day}
 use Rattle.register_file.specs.declared.standing.Standing.{Standing}
-use Rattle.register.specs.CardRow.{may_stand, breach_at}
+use Rattle.register.specs.CardRow.{may_stand}
 use Rattle.register_file.specs.Fields.{day_at, standing_at}
-use Rattle.register_file.specs.File.{Contents, before, cards_at, ending_at, file_at}
+use Rattle.register_file.specs.File.{before, cards_at, ending_at, file_at}
 use Rattle.register_file.specs.FileLaws.{FaultPlaced}
 use Rattle.register.specs.Kept.{day_kept}
 use Rattle.register_file.proofs.FileCards.{card_then, after_count, after_day}

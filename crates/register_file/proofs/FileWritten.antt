@@ -1,12 +1,12 @@
 -- A file is what writing its day and cards puts. Assumes nothing.
-use Rattle.std.proofs.Common.{◌≡◌, ℕ, zero, suc, ◌+◌, ◌-◌, ◌<◌, ◌≤◌, min, Bool, true, false, cond, ◌&&◌, eqb, ltb, leb, ◌⊎◌, List, [], ◌∷◌, ◌++◌, map, length, take, drop, pos, is_ok, Ok, Err, Result, sym, refl, ap, ◌∙◌, subst, inl, inr, append_assoc, add-zero, add_assoc, arith}
+use Rattle.std.proofs.Common.{◌≡◌, ℕ, zero, suc, ◌+◌, ◌-◌, ◌<◌, ◌≤◌, min, Bool, true, false, ◌&&◌, ltb, leb, List, [], ◌∷◌, ◌++◌, length, take, drop, pos, is_ok, Ok, sym, refl, ap, ◌∙◌, subst, append_assoc, add-zero, add_assoc, arith}
 use Rattle.std.proofs.lemmas.List.{append-nil, drop_all, length-append, length-drop}
-use Rattle.std.proofs.lemmas.Bool.{cases_Bool, cond-true, cond-false, and_parts, and_from, leb-true, le-leb, ltb-true, lt-ltb, ltb-false, both_ways}
+use Rattle.std.proofs.lemmas.Bool.{cond-true, and_parts, and_from, leb-true, le-leb, ltb-true, lt-ltb, ltb-false, both_ways}
 use Rattle.std.specs.List.{flat_map, AllByRecursion as All}
 use Rattle.wire.specs.declared.counted.Counted.{Counted}
 use Rattle.wire.specs.Bytes.{Bytes, word_bytes}
 use Rattle.wire.specs.Maps.{stands}
-use Rattle.wire.specs.Reading.{Read, and_then, word_at, is_quantity, is_price, is_map, is_count}
+use Rattle.wire.specs.Reading.{is_quantity, is_price, is_count}
 use Rattle.wire.specs.Rows.{entries, packed, all_held, counted_held}
 use Rattle.wire.proofs.CountedRows.{counts, packed_held}
 use Rattle.wire.specs.Lawful.{number_lawful}
@@ -18,19 +18,18 @@ use Rattle.register.specs.declared.data.RampLimits.{RampLimits}
 use Rattle.register.specs.declared.data.Regulation.{Regulation}
 use Rattle.register.specs.declared.data.StartUpLimit.{StartUpLimit}
 use Rattle.register_file.specs.declared.standing.Standing.{Standing}
-use Rattle.register.specs.Cards.{regulation, blank_limit, blank_limits, packed_start_up, packed_ramp, tidied}
-use Rattle.register.specs.CardRow.{number_of, numbered_kept, may_stand, cards_checked, row_kept, row_meaning}
-use Rattle.register_file.specs.Fields.{day_at, standing_at}
+use Rattle.register.specs.Cards.{regulation, blank_limit, blank_limits}
+use Rattle.register.specs.CardRow.{number_of, numbered_kept, may_stand, cards_checked}
 use Rattle.register.specs.Limits.{limits_held, is_blank_limit, is_blank_limits}
-use Rattle.register_file.specs.File.{Contents, contents, before, cards_at, ending_at, file_at, cards_of, file_meaning}
+use Rattle.register_file.specs.File.{contents, before, cards_at, ending_at, file_at, cards_of}
 use Rattle.register_file.specs.FileLaws.{WrittenAs, FileWritten}
 use Rattle.register.specs.Kept.{day_prices, is_day_length, caps_in_order, day_kept, rises_from, rises, first_is, regulation_kept, is_limit, start_up_kept, is_row, ramp_kept, card_kept}
 use Rattle.register.proofs.KeptParts.{kept_parts}
-use Rattle.register_file.specs.Writing.{day_bytes, standing_bytes, file_bytes, MapFits, Writable}
+use Rattle.register_file.specs.Writing.{day_bytes, standing_bytes, Writable}
 use Rattle.register.proofs.CardRows.{row_kept_lem, checked_more, passed}
 use Rattle.register_file.proofs.FileCards.{card_then, file_counted}
-use Rattle.register_file.proofs.FileFields.{DayHolds, QuantityOr, RegulationOr, StartUpOr, RampOr, StandingHolds, standing_undoes, day_undoes}
-use Rattle.register_file.proofs.FileMeaning.{card_read, cards_checked_lem, holds_tidy, Accepted, accepted, contents_in, means}
+use Rattle.register_file.proofs.FileFields.{DayHolds, RegulationOr, StandingHolds, standing_undoes, day_undoes}
+use Rattle.register_file.proofs.FileMeaning.{card_read, cards_checked_lem, holds_tidy, accepted, contents_in, means}
 use Rattle.register.specs.LimitFields.{limit_blank, limits_blank}
 use Rattle.register_file.proofs.Undoes.{StandsOr}
 

@@ -1,5 +1,5 @@
 -- A card's length is what its map and its counts say. Assumes nothing.
-use Rattle.std.proofs.Common.{◌≡◌, ℕ, zero, suc, ◌+◌, ◌-◌, ◌*◌, ◌^◌, ◌<◌, ◌≤◌, Bool, true, false, cond, ◌&&◌, ltb, leb, ◌⊎◌, List, [], ◌∷◌, ◌++◌, length, get_or, take, drop, is_ok, Ok, Err, Result, sym, refl, ap, ◌∙◌, subst, inl, inr, append_assoc, suc-mul, arith, w8, Fits}
+use Rattle.std.proofs.Common.{◌≡◌, ℕ, ◌+◌, ◌-◌, ◌*◌, ◌<◌, ◌≤◌, Bool, true, false, cond, ltb, List, [], ◌∷◌, ◌++◌, length, get_or, drop, is_ok, Ok, Err, sym, refl, ap, ◌∙◌, append_assoc, suc-mul, arith, w8, Fits}
 use Rattle.std.proofs.ByRecursion.{All-from_get_or}
 use Rattle.std.proofs.lemmas.List.{length-append, length-drop}
 use Rattle.std.proofs.lemmas.Bool.{lt-ltb, ltb-true, both_ways}
@@ -12,8 +12,6 @@ use Rattle.wire.specs.Rows.{entries, counted_bytes, counted_held}
 use Rattle.wire.proofs.CountedRows.{entries_long, at_most}
 use Rattle.wire.specs.Lawful.{number_lawful}
 use Rattle.wire.specs.Steps.{drop_on}
-use Rattle.register.specs.declared.data.RampLimits.{RampLimits}
-use Rattle.register.specs.declared.data.StartUpLimit.{StartUpLimit}
 use Rattle.register_file.specs.declared.standing.Head.{Head}
 use Rattle.register_file.specs.declared.standing.Services.{Services}
 use Rattle.register_file.specs.declared.standing.Standing.{Standing}
@@ -22,7 +20,7 @@ use Rattle.register_file.specs.Fields.{standing_at}
 use Rattle.register.specs.Limits.{limit_bytes, limits_bytes, limits_held, is_blank_limit, is_blank_limits}
 use Rattle.register_file.specs.File.{end_of}
 use Rattle.register.specs.Kept.{is_limit}
-use Rattle.register_file.specs.Skipping.{or_zero, width_of, fixed_length, rows_length, pairs_place, rows_place, after_card}
+use Rattle.register_file.specs.Skipping.{or_zero, fixed_length, rows_length, pairs_place, rows_place, after_card}
 use Rattle.register_file.specs.Writing.{regulation_bytes}
 use Rattle.register_file.proofs.FileFields.{head_bytes, services_bytes, head_in, services_in, StandingHolds, parts_bytes, parts_undoes}
 use Rattle.register.specs.LimitFields.{limit_blank, limits_blank}

@@ -1,5 +1,5 @@
 -- Formats put together field by field, where later fields may be read by what earlier ones said: reading and writing undo each other. Assumes nothing.
-use Rattle.std.proofs.Common.{◌≡◌, ℕ, ◌+◌, ◌≤◌, Bool, true, false, cond, ◌⊎◌, List, [], ◌∷◌, ◌++◌, length, drop, Ok, Err, MatchBool, Result, sym, refl, ap, ◌∙◌, subst, inl, inr, append_assoc, add-zero, add_assoc, arith}
+use Rattle.std.proofs.Common.{◌≡◌, ℕ, ◌+◌, ◌≤◌, Bool, true, false, cond, List, [], ◌++◌, length, drop, Ok, Err, MatchBool, sym, ap, ◌∙◌, subst, inl, inr, append_assoc, add-zero, add_assoc, arith}
 use Rattle.std.proofs.lemmas.List.{length-append}
 use Rattle.faults.specs.declared.Fault.{Fault}
 use Rattle.wire.specs.Bytes.{Bytes}

@@ -1,4 +1,6 @@
 // A register file as a register: checked once when it is opened, and read again on demand.
+#![tactic(auto)]
+
 mod fields;
 pub mod file;
 mod file_check;

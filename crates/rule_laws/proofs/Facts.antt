@@ -1,7 +1,6 @@
 -- What days and cards keep, part by part, and what follows for the terms of the rules. Assumes nothing.
-use Rattle.std.proofs.Common.{◌≡◌, ℕ, ◌+◌, ◌-◌, ◌<◌, ◌≤◌, Bool, true, false, cond, ◌&&◌, eqb, ltb, leb, ℤ, pos, negsuc, sym, refl, ap, ◌∙◌, subst, inl, inr, arith}
+use Rattle.std.proofs.Common.{◌≡◌, ◌≤◌, true, ◌&&◌, leb, ℤ, pos, ap, ◌∙◌, inl, inr}
 use lib.Signed.{le_z, lt_z}
-use Rattle.std.proofs.lemmas.Int.{ints}
 use Rattle.std.proofs.lemmas.Bool.{and_parts, leb-true, cases_Bool, cond-true, cond-false}
 use Rattle.std.specs.Int.{int_max, int_min}
 use Rattle.wire.specs.Reading.{is_price}
@@ -9,7 +8,7 @@ use Rattle.register.specs.declared.data.Card.{Card}
 use Rattle.register.specs.declared.data.Day.{Day}
 use Rattle.register.specs.Kept.{day_kept, day_prices, caps_in_order, is_day_length, card_kept}
 use Rattle.register.proofs.KeptParts.{kept_parts}
-use Rattle.checks.specs.Terms.{top, ceiling, extension_price}
+use Rattle.checks.specs.Terms.{ceiling, extension_price}
 
 pub record DayParts (d : Day) : Type 0 where
   pub floor : is_price d.floor ≡ true

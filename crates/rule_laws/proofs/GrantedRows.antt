@@ -1,5 +1,5 @@
 -- What is granted is what mending makes. Assumes nothing.
-use Rattle.std.proofs.Common.{◌≡◌, ℕ, true, Some, None, Ok, Err, Option, Result, sym, refl, ap, ◌∙◌, subst}
+use Rattle.std.proofs.Common.{◌≡◌, ℕ, true, Some, None, Ok, Err, Option, Result, sym, refl, ap, ◌∙◌}
 use Rattle.faults.specs.declared.Fault.{Fault}
 use Rattle.wire.specs.Steps.{ok_not_err, ok_same}
 use Rattle.bid.specs.declared.components.Components.{Components}
@@ -8,7 +8,6 @@ use Rattle.register.specs.declared.data.Card.{Card}
 use Rattle.register.specs.Meaning.{Meaning}
 use Rattle.rule_laws.specs.Granted.{GrantedRow}
 use Rattle.rule_laws.specs.Judging.{ruled_by, ruled, marked}
-use Rattle.rule_laws.specs.Made.{Makes}
 use Rattle.mending.specs.Marks.{marks}
 use Rattle.mending.specs.Mending.{mended}
 use Rattle.rule_laws.proofs.HonestMarks.{honest}

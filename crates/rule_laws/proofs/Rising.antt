@@ -1,15 +1,15 @@
 -- Steps that pass their checks: ends and prices rise within their limits. Assumes nothing.
-use Rattle.std.proofs.Common.{◌≡◌, ℕ, ◌+◌, ◌<◌, ◌≤◌, Bool, true, false, cond, not, ◌&&◌, ◌||◌, ltb, leb, ◌⊎◌, List, [], ◌∷◌, ◌++◌, map, length, ℤ, pos, Ok, Err, sym, refl, ap, ◌∙◌, subst, inl, inr, arith}
-use lib.Signed.{le_z, lt_z}
+use Rattle.std.proofs.Common.{◌≡◌, ℕ, ◌+◌, ◌<◌, ◌≤◌, Bool, true, false, cond, ◌||◌, ltb, leb, List, [], ◌∷◌, ◌++◌, map, length, ℤ, Ok, Err, sym, refl, ap, ◌∙◌, arith}
+use lib.Signed.{lt_z}
 use Rattle.std.proofs.lemmas.Int.{ints}
-use Rattle.std.proofs.lemmas.Bool.{leb-false, ltb-false, lt-leb, le-ltb, or_parts, or_from, cond-true, cond-false, cases_Bool, both_ways}
-use Rattle.std.specs.Int.{int_min, int_max}
+use Rattle.std.proofs.lemmas.Bool.{leb-false, ltb-false, lt-leb, le-ltb, or_parts, or_from, cond-false}
+use Rattle.std.specs.Int.{int_min}
 use Rattle.faults.specs.declared.Fault.{Fault}
 use Rattle.wire.specs.Steps.{ok_not_err}
 use Rattle.bid.specs.declared.components.Step.{Step}
 use Rattle.bid.specs.Fields.{step}
 use Rattle.register.specs.declared.data.Day.{Day}
-use Rattle.checks.specs.Checks.{Check, Passed, first_broken, step_check, step_checks}
+use Rattle.checks.specs.Checks.{Passed, first_broken, step_checks}
 use Rattle.mending.specs.Mending.{capped_step, lengthened, price_of}
 use Rattle.checks.specs.Terms.{end_of}
 

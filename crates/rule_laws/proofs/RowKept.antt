@@ -1,13 +1,12 @@
 -- A mended row keeps what bids keep. Assumes nothing.
-use Rattle.std.proofs.Common.{◌≡◌, ℕ, suc, ◌+◌, ◌-◌, ◌<◌, ◌≤◌, min, Bool, true, false, cond, ◌&&◌, ◌||◌, ltb, leb, ◌⊎◌, List, [], ◌∷◌, ◌++◌, map, length, ℤ, pos, Some, None, Ok, Err, Option, Result, unwrap_or, sym, refl, ap, ◌∙◌, subst, inl, inr, arith}
+use Rattle.std.proofs.Common.{◌≡◌, ℕ, suc, ◌+◌, ◌<◌, ◌≤◌, Bool, true, false, cond, ◌&&◌, ltb, leb, ◌⊎◌, List, [], ◌∷◌, ◌++◌, map, length, ℤ, pos, Some, None, Ok, Err, Option, Result, unwrap_or, sym, refl, ap, ◌∙◌, inl, inr, arith}
 use lib.Signed.{le_z}
-use Rattle.std.proofs.lemmas.List.{length-map, length-append, length-set}
+use Rattle.std.proofs.lemmas.List.{length-map, length-append}
 use Rattle.std.proofs.lemmas.Bool.{and_parts, and_from, le-leb, leb-true, leb-false, ltb-true, ltb-false, cond-true, cond-false, cases_Bool, and_cases}
 use Rattle.std.specs.Int.{int_min}
 use Rattle.register.specs.Kept.{day_kept, card_kept}
-use Rattle.wire.specs.declared.counted.Counted.{Counted}
 use Rattle.wire.specs.Reading.{is_quantity, is_price, is_count}
-use Rattle.wire.specs.Rows.{entries, packed, all_held, counted_held, optional_held}
+use Rattle.wire.specs.Rows.{packed, all_held, optional_held}
 use Rattle.wire.proofs.CountedRows.{packed_held, entries_held, entries_long, counts}
 use Rattle.wire.specs.Steps.{ok_not_err, ok_same}
 use Rattle.bid.specs.declared.components.Components.{Components}
@@ -18,13 +17,13 @@ use Rattle.bid.specs.declared.components.Step.{Step}
 use Rattle.bid.specs.Fields.{step, blank_step, is_blank_step, step_held, steps_held, curve_held, service_held, is_service_quantity, service}
 use Rattle.bid.specs.Kept.{keeps, services_held}
 use Rattle.bid.specs.FieldLaws.{step_blanks}
-use Rattle.bid.proofs.RecordLaws.{Parts, parts, kept, services_held_lem}
+use Rattle.bid.proofs.RecordLaws.{parts, kept, services_held_lem}
 use Rattle.faults.specs.declared.Fault.{Fault}
 use Rattle.register.specs.declared.data.Card.{Card}
 use Rattle.register.specs.declared.data.Day.{Day}
-use Rattle.mending.specs.Mending.{capped, capped_step, curve_of, reserve, regulated, regulation_up, regulation_down, above_limit, has_energy, mended_services, lengthened, extended_steps, steps_made, curve_made, extended, reached, row_made, remade, mended, price_of}
+use Rattle.mending.specs.Mending.{capped, capped_step, curve_of, regulated, regulation_up, regulation_down, above_limit, has_energy, mended_services, lengthened, extended_steps, steps_made, curve_made, extended, reached, row_made, remade, mended, price_of}
 use Rattle.checks.specs.Terms.{top, base, ceiling, extension_price, free, need, steps_of, end_of, curve_end}
-use Rattle.rule_laws.proofs.Facts.{DayParts, day_parts, CardParts, card_parts, min_price, ceiling_price, extension_price_lem}
+use Rattle.rule_laws.proofs.Facts.{day_parts, CardParts, card_parts, min_price, ceiling_price, extension_price_lem}
 
 -- a service of a quantity within limits
 service_kept : (q : ℕ) (p : ℤ) → 1 ≤ q → q ≤ 10000000 → is_price p ≡ true → service_held (service q p) ≡ true

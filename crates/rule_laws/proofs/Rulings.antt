@@ -1,5 +1,5 @@
 -- Judging against what a register means, from what its calls answer. Assumes nothing.
-use Rattle.std.proofs.Common.{◌≡◌, ℕ, Bool, true, false, eqb, List, is_some, Some, None, Ok, Err, Option, Result, sym, refl, ap, ◌∙◌, subst}
+use Rattle.std.proofs.Common.{◌≡◌, ℕ, true, false, eqb, List, is_some, Some, None, Ok, Err, Option, Result, sym, refl, ap, ◌∙◌, subst}
 use Rattle.std.proofs.lemmas.Bool.{both_ways, cond-true, cond-false, eq-eqb, ne_eqb}
 use Rattle.faults.specs.declared.Fault.{Fault}
 use Rattle.faults.specs.declared.Fault.TheVariants.{Register, Window}
@@ -14,7 +14,6 @@ use Rattle.register.specs.Kept.{day_kept}
 use Rattle.register.specs.Meaning.{Meaning, Keeps, card_or}
 use Rattle.checks.specs.Checks.{first_broken, checks}
 use Rattle.rule_laws.specs.Judging.{after_checks, ruled_by, ruled, marked, denied, read_judged, judged}
-use Rattle.mending.specs.Marks.{marks}
 use Rattle.mending.specs.Mending.{mended}
 use Rattle.checks.specs.Passing.{checks_passed}
 use Rattle.checks.proofs.Broken.{checks_passed_lem}

@@ -1,13 +1,13 @@
 -- A granted row, judged again, comes out in the same bytes with no marks. Assumes nothing.
-use Rattle.std.proofs.Common.{◌≡◌, ℕ, ◌+◌, ◌<◌, ◌≤◌, Bool, true, false, cond, ◌&&◌, eqb, leb, ◌⊎◌, List, [], ◌∷◌, ◌++◌, length, take, drop, ℤ, pos, negsuc, Some, None, Ok, Err, Option, Result, sym, refl, ap, ◌∙◌, subst, inl, inr, arith}
+use Rattle.std.proofs.Common.{◌≡◌, ℕ, ◌≤◌, true, false, cond, eqb, leb, List, [], ◌∷◌, ◌++◌, length, take, drop, ℤ, pos, negsuc, Some, None, Ok, Err, Option, Result, sym, refl, ap, ◌∙◌, subst, inl, inr, arith}
 use Rattle.std.proofs.lemmas.List.{take_at}
-use Rattle.std.proofs.lemmas.Bool.{and_from, eq-eqb, cases_Bool, cond-true, cond-false, le-leb, leb-true, ltb-true}
+use Rattle.std.proofs.lemmas.Bool.{and_from, eq-eqb, cases_Bool, cond-true, cond-false, le-leb, ltb-true}
 use Rattle.faults.specs.Answers.{answer_of}
 use Rattle.faults.specs.declared.Fault.{Fault}
 use Rattle.faults.specs.declared.Fault.TheVariants.{Record, Register, Rule, Window}
 use Rattle.wire.specs.Bytes.{Bytes}
 use Rattle.wire.specs.Writing.{too_short}
-use Rattle.wire.specs.Steps.{ok_not_err, ok_same}
+use Rattle.wire.specs.Steps.{ok_not_err}
 use Rattle.bid.specs.declared.components.Components.{Components}
 use Rattle.bid.specs.declared.components.Curve.{Curve}
 use Rattle.bid.specs.declared.components.Service.{Service}
@@ -17,13 +17,11 @@ use Rattle.bid.specs.Record.{record_read, record_bytes, record_written}
 use Rattle.bid.proofs.RecordLaws.{record_whole, reads_records, parts}
 use Rattle.faults.specs.declared.WindowFault.TheVariants.{NoCoordinator}
 use Rattle.register.specs.declared.data.Card.{Card}
-use Rattle.register.specs.Kept.{day_kept}
 use Rattle.register.specs.Meaning.{Meaning, Keeps}
 use Rattle.checks.specs.Checks.{Passed, first_broken, checks}
 use Rattle.rule_laws.specs.Judging.{after_checks, ruled_by, ruled, marked, denied, wrote, row_written, read_judged, judged, Verdict}
 use Rattle.mending.specs.Marks.{same_price, same_service, same_prices, same_ends, same_quantities, curve_prices, mark, marks}
 use Rattle.mending.specs.Mending.{mended}
-use Rattle.checks.specs.Passing.{checks_passed}
 use Rattle.rule_laws.specs.Settled.{Settled, SameMeaning, OnlyMeaning}
 use Rattle.checks.specs.Terms.{steps_of}
 use Rattle.checks.proofs.Broken.{checks_passed_lem}

@@ -1,19 +1,16 @@
 -- A mended row passes the checks again, and mending leaves it as it is. Assumes nothing.
-use Rattle.std.proofs.Common.{◌≡◌, ℕ, ◌+◌, ◌-◌, ◌<◌, ◌≤◌, Bool, true, false, cond, not, ◌&&◌, ◌||◌, eqb, ltb, leb, ◌⊎◌, List, [], ◌∷◌, ◌++◌, map, length, ℤ, pos, is_some, Some, None, Ok, Err, Option, Result, unwrap_or, sym, refl, ap, ◌∙◌, subst, inl, inr, arith}
+use Rattle.std.proofs.Common.{◌≡◌, ℕ, ◌+◌, ◌<◌, ◌≤◌, Bool, true, false, cond, not, ◌&&◌, ◌||◌, eqb, ltb, leb, List, [], ◌∷◌, ◌++◌, map, length, ℤ, pos, is_some, Some, None, Ok, Err, Option, sym, refl, ap, ◌∙◌, subst, inl, inr, arith}
 use lib.Signed.{le_z, lt_z}
 use Rattle.std.proofs.lemmas.List.{length-map}
 use Rattle.std.proofs.lemmas.Int.{ints}
-use Rattle.std.proofs.lemmas.Bool.{and_parts, leb-true, le-leb, lt-leb, le-ltb, lt-ltb, ltb-true, ltb-false, eqb-true, eq-eqb, not-false, cond-true, cond-false, cases_Bool, or_parts, or_from, or_left, or_right, or_cases, and_left, and_right, both_ways}
+use Rattle.std.proofs.lemmas.Bool.{and_parts, leb-true, lt-leb, le-ltb, eqb-true, eq-eqb, not-false, cond-true, cond-false, cases_Bool, or_parts, or_from, or_left, or_right, or_cases, and_left, and_right}
 use Rattle.std.specs.Int.{int_min, int_max}
-use Rattle.faults.specs.declared.Fault.{Fault}
-use Rattle.wire.specs.Reading.{is_price}
-use Rattle.wire.specs.Rows.{entries, packed, optional_held}
+use Rattle.wire.specs.Rows.{optional_held}
 use Rattle.wire.proofs.CountedRows.{entries-packed}
-use Rattle.wire.specs.Steps.{ok_not_err, ok_same}
+use Rattle.wire.specs.Steps.{ok_not_err}
 use Rattle.bid.specs.declared.components.Components.{Components}
 use Rattle.bid.specs.declared.components.Curve.{Curve}
 use Rattle.bid.specs.declared.components.Service.{Service}
-use Rattle.bid.specs.declared.components.Services.{Services}
 use Rattle.bid.specs.declared.components.Step.{Step}
 use Rattle.bid.specs.Fields.{step, blank_step, is_blank_step, curve_held, service}
 use Rattle.bid.specs.Kept.{keeps}
@@ -21,12 +18,12 @@ use Rattle.bid.specs.FieldLaws.{step_blanks}
 use Rattle.bid.proofs.RecordLaws.{parts}
 use Rattle.register.specs.declared.data.Card.{Card}
 use Rattle.register.specs.declared.data.Day.{Day}
-use Rattle.register.specs.Kept.{day_kept, card_kept}
-use Rattle.checks.specs.Checks.{Passed, first_broken, filing_checks, self_schedule_checks, curve_checks, step_checks, service_checks, start_up_checks, ramp_checks}
-use Rattle.mending.specs.Mending.{capped, capped_step, curve_of, reserve, regulated, regulation_up, regulation_down, above_limit, has_energy, mended_services, lengthened, extended, reached, row_made, remade, mended, price_of}
+use Rattle.register.specs.Kept.{day_kept}
+use Rattle.checks.specs.Checks.{Passed, first_broken, filing_checks, self_schedule_checks, curve_checks, step_checks, service_checks}
+use Rattle.mending.specs.Mending.{capped, capped_step, curve_of, regulated, above_limit, has_energy, mended_services, lengthened, reached, row_made, remade, mended, price_of}
 use Rattle.checks.specs.Passing.{in_turn, services_passed, checks_passed}
 use Rattle.checks.specs.Terms.{top, base, ceiling, extension_price, free, need, steps_of, end_of, curve_end}
-use Rattle.rule_laws.proofs.Facts.{DayParts, day_parts, CardParts, card_parts}
+use Rattle.rule_laws.proofs.Facts.{DayParts, day_parts}
 use Rattle.rule_laws.proofs.Rising.{check_passed, Rising, rising, passes, rising_capped, rising_end, rising_lengthened, rising_grown, end-lengthened, end_grown, Under, under-capped, under-lengthened, under_grown, capped-under}
 use Rattle.rule_laws.proofs.RowKept.{Reach, enough, made, longer, grown, Within, reach, row_parts_lem, curve_fits}
 

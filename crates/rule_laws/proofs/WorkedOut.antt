@@ -1,6 +1,5 @@
 -- The worked bids, computed. Assumes nothing.
 use Rattle.std.proofs.Common.{refl}
-use Rattle.bid.specs.Kept.{keeps}
 use Rattle.bid.specs.Record.{record_read, record_bytes, record_written}
 use Rattle.checks.specs.Checks.{checks}
 use Rattle.rule_laws.specs.Judging.{ruled, judged}

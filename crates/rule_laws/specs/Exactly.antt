@@ -1,5 +1,5 @@
 -- When each fault of the rules is answered: its condition in fields of bid, card and day, and the order of the checks. Assumes nothing.
-use Rattle.std.specs.Prelude.{◌≡◌, ℕ, zero, suc, ◌+◌, ◌*◌, ◌<◌, ◌≤◌, Bool, true, false, cond, ◌||◌, ◌⊎◌, List, [], ◌∷◌, length, ℤ, pos, ◌<ℤ◌, is_some, Some, None, Option, ◌==◌, ◌≢◌, nat_le, slice_index_or}
+use Rattle.std.specs.Prelude.{◌≡◌, ℕ, zero, suc, ◌+◌, ◌*◌, ◌<◌, ◌≤◌, cond, ◌||◌, ◌⊎◌, length, pos, ◌<ℤ◌, is_some, Some, None, Option, ◌==◌, ◌≢◌, nat_le, slice_index_or}
 use Rattle.std.specs.Int.{int_min}
 use Rattle.faults.specs.Answers.{answered, result_answer}
 use Rattle.wire.specs.Rows.{entries}
@@ -14,7 +14,6 @@ use Rattle.bid.specs.declared.components.StartUpPair.{StartUpPair}
 use Rattle.bid.specs.declared.components.Step.{Step}
 use Rattle.bid.specs.Fields.{blank_step, blank_start_up_pair, blank_ramp_pair}
 use Rattle.register.specs.declared.data.Card.{Card}
-use Rattle.register.specs.declared.data.Day.{Day}
 use Rattle.register.specs.declared.data.RampLimits.{RampLimits}
 use Rattle.register.specs.declared.data.StartUpLimit.{StartUpLimit}
 use Rattle.register.specs.Cards.{blank_limit, blank_limits}

@@ -1,5 +1,5 @@
 -- Fifteen worked bids with their whole answers and rows. Assumes nothing.
-use Rattle.std.specs.Prelude.{◌≡◌, ℕ, cond, List, [], ◌∷◌, ◌++◌, map, length, drop, replicate, pos, negsuc, Some, None, Option, ◌==◌}
+use Rattle.std.specs.Prelude.{◌≡◌, ℕ, cond, List, [], ◌∷◌, ◌++◌, map, length, drop, replicate, pos, negsuc, Some, None, ◌==◌}
 use Rattle.register.specs.declared.data.Card.{Card}
 use Rattle.register.specs.declared.data.Day.{Day}
 use Rattle.register.specs.Cards.{blank_card, regulation, with_unit, with_services, with_limit}

@@ -1,4 +1,6 @@
 // The rules: a bid is checked against its card and day, mended, and marked where it was changed.
+#![tactic(auto)]
+
 mod judged;
 mod judging;
 

@@ -1,4 +1,6 @@
 // Numbers of the market in words: megawatts, dollars, hours and bytes as people write them.
+#![tactic(auto)]
+
 mod bids;
 mod registers;
 mod units;

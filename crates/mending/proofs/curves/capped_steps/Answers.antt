@@ -1,5 +1,5 @@
-use Rattle.std.proofs.Common.{◌≡◌, ◌+◌, ◌-◌, ◌<◌, ◌≤◌, [], ◌∷◌, ◌++◌, map, length, get_or, take, drop, replicate, sym, refl, ap, ◌∙◌, arith, length-set, w32, to_z, of_z}
-use Rattle.std.proofs.lemmas.List.{take_more_set, map_more, take_all, length-map}
+use Rattle.std.proofs.Common.{◌≡◌, ◌<◌, ◌≤◌, [], ◌∷◌, ◌++◌, map, length, take, sym, ap, ◌∙◌, arith, length-set, w32, to_z, of_z}
+use Rattle.std.proofs.lemmas.List.{take_more_set, map_more, take_all}
 use Rattle.std.proofs.lemmas.Int.{to_z-of_z}
 use Rattle.wire.specs.Rows.{packed}
 use Rattle.wire.proofs.Rows.{blank_more, all_rows}

@@ -1,4 +1,4 @@
-use Rattle.std.proofs.Common.{◌≡◌, ap, ◌∙◌, arith}
+use Rattle.std.proofs.Common.{ap, ◌∙◌, arith}
 use Rattle.mending.specs.Marks.{mark, marks}
 use Rattle.mending.proofs.marking.marks.Goals as goal
 

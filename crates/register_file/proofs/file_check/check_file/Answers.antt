@@ -1,4 +1,4 @@
-use Rattle.std.proofs.Common.{◌≡◌, leb, length, sym, ap, ◌∙◌}
+use Rattle.std.proofs.Common.{leb, length, sym, ap, ◌∙◌}
 use Rattle.std.proofs.lemmas.Bool.{cond-true, le-leb}
 use Rattle.register_file.specs.File.{cards_at, answer_only}
 use Rattle.register_file.proofs.FileCards.{ending, file_counted}

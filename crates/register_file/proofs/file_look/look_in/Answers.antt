@@ -1,4 +1,4 @@
-use Rattle.std.proofs.Common.{◌≡◌, is_some, sym, ap, ◌∙◌}
+use Rattle.std.proofs.Common.{is_some, sym, ap}
 use Rattle.register.specs.Meaning.{card_or}
 use Rattle.register_file.proofs.FileMeaning.{file_keeps, cards_stand, look_misses, look_finds, look_stands}
 use Rattle.register_file.proofs.Skipped.{lent_bytes}

@@ -1,4 +1,4 @@
-use Rattle.std.proofs.Common.{◌≡◌, ◌+◌, ◌<◌, ◌≤◌, length, Ok, sym, ap, ◌∙◌, arith}
+use Rattle.std.proofs.Common.{◌≤◌, Ok, sym, ap, ◌∙◌, arith}
 use Rattle.register_file.specs.Skipping.{rows_place, after_card}
 use Rattle.register_file.proofs.Skipped.{lent_bytes, skips, to_rows, to_end}
 use Rattle.register_file.proofs.skipping.after_card.Goals as goal

@@ -1,4 +1,4 @@
-use Rattle.std.proofs.Common.{◌≡◌, ◌+◌, ◌≤◌, length, take, drop}
+use Rattle.std.proofs.Common.{◌≡◌, ◌+◌, take, drop}
 use Rattle.raised.specs.Tables.{place_in}
 use Rattle.raised.proofs.levels.LevelTable.place_of.Given as goal
 

@@ -1,8 +1,8 @@
-use Rattle.std.proofs.Common.{◌≡◌, ◌+◌, ◌<◌, ◌≤◌, true, cond, ◌⊎◌, Ok, Err, sym, ap, ◌∙◌, inl, inr, arith, w32, to_z, of_z}
+use Rattle.std.proofs.Common.{◌≡◌, ◌+◌, ◌<◌, ◌⊎◌, sym, ap, ◌∙◌, inl, inr, arith, w32, to_z, of_z}
 use Rattle.std.proofs.lemmas.Int.{to_z-of_z}
 use Rattle.std.proofs.lemmas.Bool.{cond-true, cond-false}
 use Rattle.wire.specs.Rows.{entries}
-use Rattle.raised.specs.Levels.{put_level, put_answer, has_place}
+use Rattle.raised.specs.Levels.{put_level, has_place}
 use Rattle.register.specs.Meaning.{granted}
 use Rattle.raised.specs.Tables.{place_in}
 use Rattle.raised.proofs.LevelLists.{few, levels_long, has_place_lem, no_place, written, table_levels, table_kept}

@@ -1,5 +1,5 @@
-use Rattle.std.proofs.Common.{◌≡◌, true, false, ◌⊎◌, ℤ, Ok, Err, sym, refl, ap, ◌∙◌, inl, inr, arith, w32, SFits, to_z, of_z, rules}
-use lib.Signed.{lt_z, le_z}
+use Rattle.std.proofs.Common.{◌≡◌, true, false, Err, sym, refl, ap, ◌∙◌, inl, inr, w32, SFits, rules}
+use lib.Signed.{lt_z}
 use Rattle.std.proofs.lemmas.Int.{to_z-of_z}
 use Rattle.faults.specs.declared.Fault.TheVariants.{Record, Register}
 use Rattle.faults.specs.declared.RecordFault.TheVariants.{OutOfRange}
@@ -7,7 +7,7 @@ use Rattle.faults.specs.declared.RegisterFault.TheVariants.{ResourceNotHeld, Rai
 use Rattle.wire.specs.Reading.{is_price}
 use Rattle.wire.specs.Rows.{entries}
 use Rattle.raised.specs.Levels.{threshold, may_raise, put_answer, put_level, raised_meaning}
-use Rattle.register.specs.Meaning.{granted, card_or}
+use Rattle.register.specs.Meaning.{granted}
 use Rattle.raised.proofs.RaisedLevels.{raises_hold, after_answer, raise_not_price, raise_not_held, raise_not_allowed, raise_put, held_price, may_not, may}
 use Rattle.raised.proofs.raised.Raised.raise.Goals as goal
 use Rattle.raised.proofs.raised.Raised.raise.Goals.{then-level-card-via-then-level-card, then-level-card-via-else-level-card+then-level-threshold}

@@ -1,4 +1,4 @@
-use Rattle.std.proofs.Common.{◌≡◌, Ok, Err, sym, ap, ◌∙◌}
+use Rattle.std.proofs.Common.{Err, sym, ap, ◌∙◌}
 use Rattle.std.proofs.lemmas.Result.{err_from_is_err_and}
 use Rattle.register_file.specs.File.{file_at, file_meaning}
 use Rattle.register_file.proofs.FileMeaning.{granted_new, granted_old, read_as_row}
