@@ -1,4 +1,5 @@
 // One task from beginning to end: a coordinator's bids become records, a register file is opened, a level is raised, and the bids are judged.
+#![tactic(auto)]
 
 mod damage;
 mod desk;

@@ -1,4 +1,6 @@
 // Worked examples: each printed with what is expected and what was found; any difference ends the program with an error.
+#![tactic(auto)]
+
 use anyhow::anyhow;
 
 mod bids;
