@@ -7,4 +7,4 @@ mod row;
 mod services;
 
 pub use marking::marks;
-pub use row::mend;
+pub use row::mend_bid;

@@ -2,7 +2,7 @@
 use Rattle.std.proofs.Common.{◌≡◌, ℕ, zero, suc, ◌+◌, ◌-◌, ◌<◌, ◌≤◌, min, Bool, true, false, ◌&&◌, ltb, leb, List, [], ◌∷◌, ◌++◌, length, take, drop, pos, is_ok, Ok, sym, refl, ap, ◌∙◌, subst, append_assoc, add-zero, add_assoc, arith}
 use Rattle.std.proofs.lemmas.List.{append-nil, drop_all, length-append, length-drop}
 use Rattle.std.proofs.lemmas.Bool.{cond-true, and_parts, and_from, leb-true, le-leb, ltb-true, lt-ltb, ltb-false, both_ways}
-use Rattle.std.specs.List.{flat_map, AllByRecursion as All}
+use Rattle.std.specs.List.{flat_map, AllByRecursion}
 use Rattle.wire.specs.declared.counted.Counted.{Counted}
 use Rattle.wire.specs.Bytes.{Bytes, word_bytes}
 use Rattle.wire.specs.Maps.{stands}
@@ -150,21 +150,21 @@ writable_holds x k w =
     )
 
 -- the cards of a file, and what writing them puts
-cards_exact : (bytes : List ℕ) → Bytes bytes → (k place least at : ℕ) (ys : List Standing) (end : ℕ) → cards_at k place least bytes at ≡ Ok (ys, end) → (drop at bytes ≡ flat_map standing_bytes ys ++ drop end bytes) × All Writable ys
+cards_exact : (bytes : List ℕ) → Bytes bytes → (k place least at : ℕ) (ys : List Standing) (end : ℕ) → cards_at k place least bytes at ≡ Ok (ys, end) → (drop at bytes ≡ flat_map standing_bytes ys ++ drop end bytes) × AllByRecursion Writable ys
 cards_exact bytes all zero place least at ys end e =
     let same = ok_same e in
     let is : [] ≡ ys = ap (λ w. w.0) same in
-    (ap (λ k. drop k bytes) (ap (λ w. w.1) same) ∙ ap (λ l. flat_map standing_bytes l ++ drop end bytes) is, subst (All Writable) is tt)
+    (ap (λ k. drop k bytes) (ap (λ w. w.1) same) ∙ ap (λ l. flat_map standing_bytes l ++ drop end bytes) is, subst (AllByRecursion Writable) is tt)
 cards_exact bytes all (suc k) place least at ys end e =
     let r = card_read k place least bytes at ys end e in
     let x : Standing = r.0 in
     let known = standing_undoes.exact bytes at x r.1 all r.3 in
     let ih = cards_exact bytes all k (place + 1) (x.numbered.resource + 1) r.1 r.2 end r.5 in (
       known.2 ∙ ap (λ l. standing_bytes x ++ l) ih.0 ∙ sym (append_assoc (standing_bytes x) (flat_map standing_bytes r.2) (drop end bytes)) ∙ ap (λ l. flat_map standing_bytes l ++ drop end bytes) (sym r.6),
-      subst (All Writable) (sym r.6) (holds_writable x known.0, ih.1),
+      subst (AllByRecursion Writable) (sym r.6) (holds_writable x known.0, ih.1),
     )
 
-cards_restore : (bytes rest : List ℕ) (xs : List Standing) (place least at : ℕ) → all_held numbered_kept (cards_of xs) ≡ true → All Writable xs → cards_checked place least (cards_of xs) ≡ Ok tt → drop at bytes ≡ flat_map standing_bytes xs ++ rest
+cards_restore : (bytes rest : List ℕ) (xs : List Standing) (place least at : ℕ) → all_held numbered_kept (cards_of xs) ≡ true → AllByRecursion Writable xs → cards_checked place least (cards_of xs) ≡ Ok tt → drop at bytes ≡ flat_map standing_bytes xs ++ rest
     → cards_at (length xs) place least bytes at ≡ Ok (xs, at + length (flat_map standing_bytes xs))
 unfolding card_then
 cards_restore bytes rest [] place least at kept w checked e = ap (λ k. Ok ([], k)) (sym (add-zero at))

@@ -1,6 +1,6 @@
 -- What holds of every register file. Assumes nothing.
 use Rattle.std.specs.Prelude.{◌≡◌, ℕ, ◌≤◌, true, List, length, is_ok, Ok, Err}
-use Rattle.std.specs.List.{AllByRecursion as All}
+use Rattle.std.specs.List.{AllByRecursion}
 use Rattle.faults.specs.declared.Fault.{Fault}
 use Rattle.faults.specs.declared.Fault.TheVariants.{Record, Register, Rule, Window}
 use Rattle.register.specs.declared.data.Day.{Day}
@@ -29,7 +29,7 @@ pub record WrittenAs (bytes : List ℕ) (d : Day) (xs : List Standing) : Type 0 
   pub puts : bytes ≡ file_bytes d xs
   pub kept : row_kept d (cards_of xs) ≡ true
   pub few : length xs ≤ 65535
-  pub writable : All Writable xs
+  pub writable : AllByRecursion Writable xs
 
 -- a file is accepted exactly when it is what writing puts, and then it means what was written
 pub record FileWritten (bytes : List ℕ) : Type 0 where

@@ -6,10 +6,17 @@ use Rattle.wire.specs.Maps.{stands}
 use Rattle.wire.specs.Rows.{counted_bytes}
 use Rattle.register.specs.declared.data.Card.{Card}
 use Rattle.register.specs.declared.data.Day.{Day}
+use Rattle.register.specs.declared.data.RampLimits.{RampLimits}
 use Rattle.register.specs.declared.data.Regulation.{Regulation}
+use Rattle.register.specs.declared.data.StartUpLimit.{StartUpLimit}
 use Rattle.register_file.specs.declared.standing.Standing.{Standing}
 use Rattle.register.specs.Cards.{regulation, tidied}
-use Rattle.register.specs.Limits.{limit_bytes, limits_bytes}
+
+abbrev pub pair_bytes : StartUpLimit → List ℕ
+pair_bytes p = word_bytes p.down_time ++ long_bytes p.highest
+
+abbrev pub row_bytes : RampLimits → List ℕ
+row_bytes r = long_bytes r.level ++ (long_bytes r.lowest ++ long_bytes r.highest)
 
 abbrev pub regulation_bytes : Regulation → List ℕ
 regulation_bytes r = long_bytes r.certified ++ long_bytes r.award
@@ -24,7 +31,7 @@ card_bytes number map c =
     word_bytes number ++ (byte_bytes c.owner ++ (word_bytes map ++ (long_bytes c.pmin ++ (long_bytes c.pmax
     ++ (under 0 map (regulation_bytes c.up) ++ (under 1 map (regulation_bytes c.down)
     ++ (under 2 map (long_bytes c.spinning) ++ (under 3 map (long_bytes c.non_spinning) ++ (under 4 map (long_bytes c.regulation_limit) ++ (under 5 map (signed_bytes c.level)
-    ++ (under 6 map (counted_bytes limit_bytes c.start_up) ++ under 7 map (counted_bytes limits_bytes c.ramp))))))))))))
+    ++ (under 6 map (counted_bytes pair_bytes c.start_up) ++ under 7 map (counted_bytes row_bytes c.ramp))))))))))))
 
 abbrev pub standing_bytes : Standing → List ℕ
 standing_bytes x = card_bytes x.numbered.resource x.map x.numbered.card

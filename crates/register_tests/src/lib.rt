@@ -16,6 +16,8 @@ mod opening;
 #[cfg(test)]
 mod raising;
 #[cfg(test)]
+mod registers;
+#[cfg(test)]
 mod sound;
 #[cfg(test)]
 mod told;

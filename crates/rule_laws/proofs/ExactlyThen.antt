@@ -6,7 +6,6 @@ use Rattle.std.proofs.lemmas.Bool.{cases_lt, cases_eq, cases_order, cond_both}
 use Rattle.std.proofs.lemmas.Bool.Decides.{nat_tests, Decides-eqb, Decides-ltb, Decides-not, Decides-or, Decides-and, Decides-like}
 use Rattle.std.specs.Int.{int_min}
 use Rattle.faults.specs.Answers.{answer_of, answered, result_answer, rule_number}
-use Rattle.faults.specs.declared.Answer.{Answer}
 use Rattle.faults.specs.declared.Fault.{Fault}
 use Rattle.faults.specs.declared.Fault.TheVariants.{Register, Rule}
 use Rattle.faults.specs.declared.RegisterFault.TheVariants.{NotTheOwner, NoSuchHour}
@@ -32,14 +31,14 @@ use Rattle.register.specs.declared.data.StartUpLimit.{StartUpLimit}
 use Rattle.register.specs.Cards.{blank_limit, blank_limits}
 use Rattle.register.specs.Meaning.{Meaning}
 use Rattle.checks.specs.Checks.{Passed, first_broken, checks, filing_checks, self_schedule_checks, step_checks, curve_checks, service_checks, pair_checks, start_up_checks, row_checks, ramp_checks}
-use Rattle.rule_laws.specs.Exactly.{Breaks, not_held, not_owner, no_hour, schedule, start, step_end, step_price, service, start_up_count, start_up_pair, ramp_count, ramp_pair, reserves, eleventh, step_at, pair_at, service_at, certified_at, remaining, turn, layer_of, BreaksFirst, ExactlyThen}
+use Rattle.rule_laws.specs.Exactly.{Breaks, not_held, not_owner, no_hour, schedule, start, step_end, step_price, service, start_up_count, start_up_pair, ramp_count, ramp_pair, reserves, eleventh, step_at, pair_at, service_at, certified_at, remaining, turn, layer_of, BreaksFirst, ExactlyThen, TellsLayers}
 use Rattle.rule_laws.specs.Judging.{after_checks, ruled_by, ruled}
 use Rattle.mending.specs.Mending.{curve_of, capped_step, capped, reserve, has_energy, mended_services, price_of, lengthened, extended_steps, steps_made, curve_made, extended, reached, row_made, mended}
 use Rattle.checks.specs.Passing.{in_turn, checks_passed}
 use Rattle.checks.specs.Terms.{top, base, ceiling, extension_price, quantity_of, need, end_of, steps_of, curve_end}
 use Rattle.checks.proofs.Broken.{checks_passed_lem}
 use Rattle.rule_laws.proofs.Deciding.{before, least, decides_lt_z, decides_above, decides_full, decides_leb, decides_end, decides_price, decides_pair, decides_row}
-use Rattle.rule_laws.proofs.Layers.{layer_known, answer_known}
+use Rattle.rule_laws.proofs.Layers.{layer_known}
 use Rattle.rule_laws.proofs.Sayings.{by_some, by_none, Says, PairBroken, RowBroken, PlaceBroken, says, few_steps, few_pairs_lem, few_rows_lem, known}
 use Rattle.rule_laws.proofs.Turns.{Known, alike_number, alike_place, known_at, number_at, Clear, Tells, tells_later, tells_next, tells_check, tells_each}
 
@@ -329,24 +328,17 @@ module _ (coordinator : ℕ) (m : Meaning) (b : Components) (bk : keeps b ≡ tr
       (subst (Told 1 38) (sym (checks_passed_lem coordinator m.day c b)) (told-checks c e)) (told-mended c e))
 
   -- a verdict that tells of all turns answers exactly
-  denied_first : (r : Result Components Fault) → Told 0 40 r → (n l p : ℕ) → result_answer r ≡ answered n l p → 0 < n → (l ≡ layer_of n) × BreaksFirst coordinator m b n p
-  denied_first (Ok x) t n l p e some =
-      let number : Answer → ℕ = λ a. a.number in
-      absurd (omega (arith, ap number e))
-  denied_first (Err f) t n l p e some =
-      let number : Answer → ℕ = λ a. a.number in
-      let layer : Answer → ℕ = λ a. a.layer in
-      let place : Answer → ℕ = λ a. a.place in
-      let first : BreaksFirst coordinator m b (answer_of f).number (answer_of f).place = (t.holds, λ n' p' lt h. t.before n' p' (omega arith) lt h) in
-      (sym (ap layer e) ∙ layer_known f (knows (answer_of f).number (answer_of f).place t.holds) ∙ ap layer_of (ap number e), subst (BreaksFirst coordinator m b n) (ap place e) (subst (λ k. BreaksFirst coordinator m b k (answer_of f).place) (ap number e) first))
+  denied_first : (r : Result Components Fault) → Told 0 40 r → (n p : ℕ) → (result_answer r).number ≡ n → (result_answer r).place ≡ p → 0 < n → BreaksFirst coordinator m b n p
+  denied_first (Ok x) t n p e e' some = absurd (omega arith)
+  denied_first (Err f) t n p e e' some = subst (BreaksFirst coordinator m b n) e' (subst (λ k. BreaksFirst coordinator m b k (answer_of f).place) e (t.holds, λ n' p' lt h. t.before n' p' (omega arith) lt h))
 
-  first_answered : (r : Result Components Fault) → Told 0 40 r → (n p : ℕ) → BreaksFirst coordinator m b n p → result_answer r ≡ answered n (layer_of n) p
+  first_answered : (r : Result Components Fault) → Told 0 40 r → (n p : ℕ) → BreaksFirst coordinator m b n p → ((result_answer r).number ≡ n) × ((result_answer r).place ≡ p)
   first_answered (Ok x) t n p h = absurd (t n p (omega arith) (knows n p h.0).last h.0)
   first_answered (Err f) t n p h =
       let n' : ℕ = (answer_of f).number in
       let p' : ℕ = (answer_of f).place in
       elim (cases_order (turn n' p') (turn n p)) [
-        | inl e ↦ (let K = knows n' p' t.holds in let K' = knows n p h.0 in answer_known f K (alike_number K K' e) (alike_place K K' e))
+        | inl e ↦ (let K = knows n' p' t.holds in let K' = knows n p h.0 in (alike_number K K' e, alike_place K K' e))
         | inr e ↦ elim e [ inl lt ↦ absurd (h.1 n' p' lt t.holds) | inr lt ↦ absurd (t.before n p (omega arith) lt h.0) ]
       ]
 
@@ -354,9 +346,18 @@ module _ (coordinator : ℕ) (m : Meaning) (b : Components) (bk : keeps b ≡ tr
   granted_clear (Ok x) t e n p h = t n p (omega arith) (knows n p h).last h
   granted_clear (Err f) t e n p h = omega (arith, (knows (answer_of f).number (answer_of f).place t.holds).some)
 
-  clear_granted : (r : Result Components Fault) → Told 0 40 r → ((n p : ℕ) → Broken n p → ⊥) → result_answer r ≡ answered 0 0 0
+  clear_granted : (r : Result Components Fault) → Told 0 40 r → ((n p : ℕ) → Broken n p → ⊥) → (result_answer r).number ≡ 0
   clear_granted (Ok x) t none = refl
   clear_granted (Err f) t none = absurd (none _ _ t.holds)
+
+  -- and it tells the layer of what it answers
+  denied_layer : (r : Result Components Fault) → Told 0 40 r → 0 < (result_answer r).number → (result_answer r).layer ≡ layer_of (result_answer r).number
+  denied_layer (Ok x) t some = absurd (omega arith)
+  denied_layer (Err f) t some = layer_known f (knows (answer_of f).number (answer_of f).place t.holds)
+
+  granted_zeros : (r : Result Components Fault) → Told 0 40 r → (result_answer r).number ≡ 0 → result_answer r ≡ answered 0 0 0
+  granted_zeros (Ok x) t e = refl
+  granted_zeros (Err f) t e = absurd (omega (arith, (knows (answer_of f).number (answer_of f).place t.holds).some))
 
 -- each fault is answered exactly when its condition holds and none that is checked earlier does
 pub exactly_then : (coordinator : ℕ) (m : Meaning) (b : Components) → keeps b ≡ true → ExactlyThen coordinator m b
@@ -365,3 +366,11 @@ exactly_then coordinator m b bk =
     let t = told-ruled coordinator m b bk (m.cards b.resource) refl in
     let r : Result Components Fault = ruled_by coordinator m b (m.cards b.resource) in
     record { denied = denied_first coordinator m b bk r t; answers = first_answered coordinator m b bk r t; granted = granted_clear coordinator m b bk r t; passes = clear_granted coordinator m b bk r t }
+
+-- each answer tells its layer
+pub tells_layers : (coordinator : ℕ) (m : Meaning) (b : Components) → keeps b ≡ true → TellsLayers coordinator m b
+unfolding ruled
+tells_layers coordinator m b bk =
+    let t = told-ruled coordinator m b bk (m.cards b.resource) refl in
+    let r : Result Components Fault = ruled_by coordinator m b (m.cards b.resource) in
+    record { denied = denied_layer coordinator m b bk r t; granted = granted_zeros coordinator m b bk r t }

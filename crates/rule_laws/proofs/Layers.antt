@@ -1,7 +1,7 @@
 -- The layer of a fault, by its number. Assumes nothing.
-use Rattle.std.proofs.Common.{◌≡◌, ℕ, ◌<◌, ◌≤◌, refl, ap, ◌∙◌, subst, arith}
+use Rattle.std.proofs.Common.{◌≡◌, ℕ, ◌<◌, ◌≤◌, refl, subst, arith}
 use Rattle.std.proofs.lemmas.Bool.Decides.{nat_tests}
-use Rattle.faults.specs.Answers.{answer_of, answered}
+use Rattle.faults.specs.Answers.{answer_of}
 use Rattle.faults.specs.declared.Fault.{Fault}
 use Rattle.faults.specs.declared.Fault.TheVariants.{Record, Register, Rule, Window}
 use Rattle.faults.specs.declared.RecordFault.TheVariants.{CutShort, UnknownBit, BadCount, OutOfRange, BytesLeftOver}
@@ -43,6 +43,3 @@ number_most t lt = grind (arith, nat_tests)
 -- a fault whose number and place have a turn is of the register's or the rules' layer
 pub layer_known : (f : Fault) → Known (answer_of f).number (answer_of f).place → (answer_of f).layer ≡ layer_of (answer_of f).number
 layer_known f k = layer_of_lem f k.some (subst (λ n. n ≤ 17) k.number (number_most (turn (answer_of f).number (answer_of f).place) k.last))
-
-pub answer_known : {n p : ℕ} (f : Fault) → Known (answer_of f).number (answer_of f).place → (answer_of f).number ≡ n → (answer_of f).place ≡ p → answer_of f ≡ answered n (layer_of n) p
-answer_known f k e e' = let l : (answer_of f).layer ≡ layer_of _ = layer_known f k ∙ ap layer_of e in λ j. answered (e j) (l j) (e' j)

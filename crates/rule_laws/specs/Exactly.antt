@@ -99,9 +99,14 @@ layer_of n = cond (nat_le n 8) 2 3
 abbrev pub BreaksFirst : ℕ → Meaning → Components → ℕ → ℕ → Type 0
 BreaksFirst coordinator m b n p = Breaks coordinator m b n p × ((n' p' : ℕ) → turn n' p' < turn n p → Breaks coordinator m b n' p' → ⊥)
 
--- a fault is answered, with its number, layer and place, exactly when its condition holds first; a bid is granted exactly when none holds
+-- a fault is answered exactly when its condition holds first; a bid is granted exactly when none holds
 pub record ExactlyThen (coordinator : ℕ) (m : Meaning) (b : Components) : Type 0 where
-  pub denied : (n l p : ℕ) → result_answer (ruled coordinator m b) ≡ answered n l p → 0 < n → (l ≡ layer_of n) × BreaksFirst coordinator m b n p
-  pub answers : (n p : ℕ) → BreaksFirst coordinator m b n p → result_answer (ruled coordinator m b) ≡ answered n (layer_of n) p
+  pub denied : (n p : ℕ) → (result_answer (ruled coordinator m b)).number ≡ n → (result_answer (ruled coordinator m b)).place ≡ p → 0 < n → BreaksFirst coordinator m b n p
+  pub answers : (n p : ℕ) → BreaksFirst coordinator m b n p → ((result_answer (ruled coordinator m b)).number ≡ n) × ((result_answer (ruled coordinator m b)).place ≡ p)
   pub granted : (result_answer (ruled coordinator m b)).number ≡ 0 → (n p : ℕ) → Breaks coordinator m b n p → ⊥
-  pub passes : ((n p : ℕ) → Breaks coordinator m b n p → ⊥) → result_answer (ruled coordinator m b) ≡ answered 0 0 0
+  pub passes : ((n p : ℕ) → Breaks coordinator m b n p → ⊥) → (result_answer (ruled coordinator m b)).number ≡ 0
+
+-- a fault is answered with the layer of its number; a bid that is granted is answered with zeros
+pub record TellsLayers (coordinator : ℕ) (m : Meaning) (b : Components) : Type 0 where
+  pub denied : 0 < (result_answer (ruled coordinator m b)).number → (result_answer (ruled coordinator m b)).layer ≡ layer_of (result_answer (ruled coordinator m b)).number
+  pub granted : (result_answer (ruled coordinator m b)).number ≡ 0 → result_answer (ruled coordinator m b) ≡ answered 0 0 0

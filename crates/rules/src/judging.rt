@@ -2,7 +2,7 @@
 ghost use Rattle.std.specs.Prelude.{◌≡◌, IfOk};
 ghost use Rattle.rule_laws.specs.Judging.{ruled, marked, judged, denied as denied_by, verdict_of};
 ghost use Rattle.register.specs.Meaning.{Meaning, Keeps};
-ghost use Rattle.rule_laws.specs.Exactly.{ExactlyThen};
+ghost use Rattle.rule_laws.specs.Exactly.{ExactlyThen, TellsLayers};
 ghost use Rattle.rule_laws.specs.Granted.{GrantedRow};
 ghost use Rattle.rule_laws.specs.Settled.{Settled, OnlyMeaning};
 ghost use Rattle.rules.specs.Told.{told};
@@ -11,7 +11,7 @@ use crate::judged::Judged;
 use bid::Bid;
 use checks::check;
 use faults::{Fault, RegisterFault, WindowFault};
-use mending::{marks, mend};
+use mending::{marks, mend_bid};
 use register::{Card, Register};
 
 // The row that the rules make of a bid and its marks, or the first broken check.
@@ -24,7 +24,7 @@ fn rule_bid<R: Register>(register: &R, coordinator: u8, bid: &Bid) -> Result<Jud
     }
     let day = register.day();
     check(coordinator, &day, &card, &bid.components)?;
-    let components = mend(&day, &card, bid)?;
+    let components = mend_bid(&day, &card, bid)?;
     let marks = marks(&bid.components, &components);
     Ok(Judged {
         row: Bid { components },
@@ -36,6 +36,7 @@ fn rule_bid<R: Register>(register: &R, coordinator: u8, bid: &Bid) -> Result<Jud
 pub fn judge_bid<R: Register>(register: &R, coordinator: u8, bid: &Bid) -> Result<Judged, Fault>
     ensures value { told result ≡ marked bid.now.components (ruled coordinator (R.Register.meaning register.now) bid.now.components) }
     ensures exactly { ExactlyThen coordinator (R.Register.meaning register.now) bid.now.components }
+    ensures layers { TellsLayers coordinator (R.Register.meaning register.now) bid.now.components }
     ensures granted { IfOk result (λ j. GrantedRow (R.Register.meaning register.now) bid.now.components j.row.components j.marks) }
 {
     rule_bid(register, coordinator, bid)

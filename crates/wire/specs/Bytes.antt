@@ -2,11 +2,11 @@
 use Rattle.std.specs.Prelude.{ℕ, zero, suc, ◌+◌, ◌*◌, ◌/◌, ◌%◌, ◌^◌, ◌<◌, List, [], ◌∷◌, length, ℤ}
 use Rattle.std.specs.Int.{w32}
 use Rattle.std.proofs.Common.{to_z, of_z}
-use Rattle.std.specs.List.{AllByRecursion as All}
+use Rattle.std.specs.List.{AllByRecursion}
 
 -- each number of the list is a byte
 abbrev pub Bytes : List ℕ → Type 0
-Bytes = All (λ b. b < 256)
+Bytes = AllByRecursion (λ b. b < 256)
 
 -- the number that some bytes write
 abbrev pub big_endian : List ℕ → ℕ
