@@ -8,7 +8,7 @@ What is respelled: each name that a file of specs/ or proofs/ declares (definiti
 records), each name that an import gives by `as`, and the ghost members of traits. `startUpAt` becomes `start_up_at`.
 A dash stays only between two names of functions, as in `length-bytes_of`; between words it becomes a `_`, as in
 `exactly_then`. A lemma that would fall together with a definition gets `_lem` after its name. Types and modules keep
-their capitals. Functions of src/, strings, inputs and outputs are not touched.
+their capitals, but std's `AllByRecursion` goes by its own name, and not as `All`. Functions of src/, strings, inputs and outputs are not touched.
 """
 
 import os
@@ -109,6 +109,12 @@ def respell(path, text, turned):
             return path + braces + TOKEN.sub(one, rest)
         return TOKEN.sub(one, piece)
 
+    if "AllByRecursion as All" in text:
+        # `All` is a word of the library for something else
+        text = "\n".join(
+            line.replace("AllByRecursion as All", "AllByRecursion") if line.startswith("use ") else re.sub(r"\bAll\b", "AllByRecursion", line)
+            for line in text.split("\n")
+        )
     out = []
     for line in text.split("\n"):
         if source and line.lstrip().startswith("//"):
