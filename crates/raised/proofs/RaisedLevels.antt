@@ -28,6 +28,10 @@ level_price (x ∷ xs) h n l e =
       | inr s ↦ level_price xs p.1 n l (sym (cond-false (eqb x.resource n) _ _ s) ∙ e)
     ]
 
+-- what a card keeps besides its level
+pub level_kept : (c : Card) → card_kept c ≡ true → is_price c.level ≡ true
+level_kept c h = (kept_parts c h).level
+
 with_level_kept : (c : Card) (l : ℤ) → card_kept c ≡ true → is_price l ≡ true → card_kept (with_level c l) ≡ true
 with_level_kept c l h price =
     let p = kept_parts c h in
@@ -61,7 +65,7 @@ raised_held n (Some l) (Some b) price held c e =
     let z : ℤ = higher b.level l in
     subst (Held n) (some_same e) (record {
       number = h.number;
-      card = with_level_kept b z h.card (higher_price b.level l (kept_parts b h.card).level (price l refl));
+      card = with_level_kept b z h.card (higher_price b.level l (level_kept b h.card) (price l refl));
       tidy = ap (λ x. with_level x z) h.tidy;
     })
 
@@ -216,7 +220,7 @@ module _ (m : Meaning) (xs : List RaisedLevel) (n : ℕ) (l : ℤ) where
 
 price_in : (n : ℕ) (before : Card) (o : Option Card) → ((c : Card) → o ≡ Some c → Held n c) → is_some o ≡ true → is_price (card_or before o).level ≡ true
 price_in n before None k h = absurd (both_ways false refl h)
-price_in n before (Some c) k h = (kept_parts c (k c refl).card).level
+price_in n before (Some c) k h = level_kept c (k c refl).card
 
 pub held_price : (m : Meaning) (n : ℕ) (before : Card) → Keeps m → is_some (m.cards n) ≡ true → is_price (card_or before (m.cards n)).level ≡ true
 held_price m n before k h = price_in n before (m.cards n) (k.cards n) h
