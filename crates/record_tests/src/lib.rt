@@ -1,3 +1,5 @@
+#![tactic(auto)]
+
 // Tests of the bid record, read and written, of bids made from components, and of what faults answer.
 #[cfg(test)]
 mod answers;

@@ -23,7 +23,7 @@ fn granted(
     let (bytes, length) = bytes_of(record);
     assert!(rt; length <= bytes.len());
     let bid = Bid::make(components)?;
-    written_as(rt, &bid, &bytes[0..length])?;
+    written_as(rt, record, &bid, &bytes[0..length])?;
     let read = Bid::read(&bytes[0..length])?;
     assert_eq!(rt; format!(in heap; "{bid:?}")?, format!(in heap; "{read:?}")?);
     Ok(())
