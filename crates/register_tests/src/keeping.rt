@@ -15,6 +15,7 @@ const ASKED: [u16; 5] = [5, 6, 7, 8, 9];
 // Opened over an earlier card: the new day and cards are taken if granted, and else the earlier stay.
 fn opens_over<'a>(
     rt: &impl Abort,
+    case: &str,
     earlier: &'a [NumberedCard],
     day: &Day,
     cards: &'a [NumberedCard],
@@ -23,27 +24,37 @@ fn opens_over<'a>(
 ) -> Result<(), Fail> {
     let mut row = CardRow::closed();
     row.open(DAY, earlier)?;
-    assert_eq!(rt; told(row.open(*day, cards)), expected);
+    assert_eq!(rt; told(row.open(*day, cards)), expected, "{case}");
     if expected == GRANTED {
-        means(rt, &row, day, cards, &ASKED, heap)
+        means(rt, case, &row, day, cards, &ASKED, heap)
     } else {
-        means(rt, &row, &DAY, earlier, &ASKED, heap)
+        means(rt, case, &row, &DAY, earlier, &ASKED, heap)
     }
 }
 
 fn opens_in_memory(
     rt: &impl Abort,
+    case: &str,
     day: &Day,
     cards: &[NumberedCard],
     expected: Told,
     heap: Global,
 ) -> Result<(), Fail> {
-    opens_over(rt, &[numbered(9, narrow())], day, cards, expected, heap)
+    opens_over(
+        rt,
+        case,
+        &[numbered(9, narrow())],
+        day,
+        cards,
+        expected,
+        heap,
+    )
 }
 
 // The same with the bytes of files.
 fn opens_in_a_file(
     rt: &impl Abort,
+    case: &str,
     day: &Day,
     cards: &[NumberedCard],
     expected: Told,
@@ -54,11 +65,11 @@ fn opens_in_a_file(
     let written = file_of(day, cards);
     let mut file = RegisterFile::closed();
     file.open(earlier_file.bytes())?;
-    assert_eq!(rt; told(file.open(written.bytes())), expected);
+    assert_eq!(rt; told(file.open(written.bytes())), expected, "{case}");
     if expected == GRANTED {
-        means(rt, &file, day, cards, &ASKED, heap)
+        means(rt, case, &file, day, cards, &ASKED, heap)
     } else {
-        means(rt, &file, &DAY, &earlier, &ASKED, heap)
+        means(rt, case, &file, &DAY, &earlier, &ASKED, heap)
     }
 }
 
@@ -77,8 +88,8 @@ fn days_kept_and_broken(rt: HostRuntime) -> Result<(), Fail> {
     for DayCase(label, change, in_file) in days() {
         let day = change.of(&DAY);
         let in_memory = breach_or_granted(*in_file, 0);
-        opens_in_memory(&rt, &day, &cards, in_memory, rt.alloc()).note(*label)?;
-        opens_in_a_file(&rt, &day, &cards, *in_file, rt.alloc()).note(*label)?;
+        opens_in_memory(&rt, *label, &day, &cards, in_memory, rt.alloc())?;
+        opens_in_a_file(&rt, *label, &day, &cards, *in_file, rt.alloc())?;
     }
     Ok(())
 }
@@ -94,31 +105,50 @@ fn as_the_second(alone: Told) -> Told {
 
 fn alone_and_between(
     rt: &impl Abort,
+    case: &str,
     card: &Card,
     in_file: Told,
     heap: Global,
 ) -> Result<(), Fail> {
     let alone = [numbered(7, *card)];
-    opens_in_memory(rt, &DAY, &alone, breach_or_granted(in_file, 1), heap)?;
-    opens_in_a_file(rt, &DAY, &alone, in_file, heap)?;
+    opens_in_memory(rt, case, &DAY, &alone, breach_or_granted(in_file, 1), heap)?;
+    opens_in_a_file(rt, case, &DAY, &alone, in_file, heap)?;
     let between = [numbered(6, bare()), numbered(7, *card), numbered(8, bare())];
-    opens_in_memory(rt, &DAY, &between, breach_or_granted(in_file, 2), heap)?;
-    opens_in_a_file(rt, &DAY, &between, as_the_second(in_file), heap)
+    opens_in_memory(
+        rt,
+        case,
+        &DAY,
+        &between,
+        breach_or_granted(in_file, 2),
+        heap,
+    )?;
+    opens_in_a_file(rt, case, &DAY, &between, as_the_second(in_file), heap)
 }
 
-fn each_change(rt: &impl Abort, card: &Card, cases: &[CardCase], heap: Global) -> Result<(), Fail> {
+fn each_change(
+    rt: &impl Abort,
+    name: &str,
+    card: &Card,
+    cases: &[CardCase],
+    heap: Global,
+) -> Result<(), Fail> {
     for CardCase(label, change, in_file) in cases {
-        alone_and_between(rt, &change.of(card), *in_file, heap).note(*label)?;
+        let case = format!(in heap; "{name}, {label}")?;
+        alone_and_between(rt, &case, &change.of(card), *in_file, heap)?;
     }
     Ok(())
 }
 
 #[test]
 fn cards_kept_and_broken(rt: HostRuntime) -> Result<(), Fail> {
-    each_change(&rt, &full(), of_full(), rt.alloc()).note("the full card")?;
-    each_change(&rt, &bare(), of_bare(), rt.alloc()).note("the bare card")?;
-    each_change(&rt, &rubbish_behind(), of_rubbish(), rt.alloc()).note(
+    each_change(&rt, "the full card", &full(), of_full(), rt.alloc())?;
+    each_change(&rt, "the bare card", &bare(), of_bare(), rt.alloc())?;
+    each_change(
+        &rt,
         "the card with rubbish behind",
+        &rubbish_behind(),
+        of_rubbish(),
+        rt.alloc(),
     )
 }
 
@@ -142,20 +172,20 @@ static ORDERS: [Order; 12] = [
 
 fn in_this_order(rt: &impl Abort, order: &Order, heap: Global) -> Result<(), Fail> {
     let Order(first, second, third, expected) = *order;
+    let case = format!(in heap; "{first}, {second}, {third}")?;
     let cards = [
         numbered(first, full()),
         numbered(second, bare()),
         numbered(third, narrow()),
     ];
-    opens_in_memory(rt, &DAY, &cards, expected, heap)?;
-    opens_in_a_file(rt, &DAY, &cards, expected, heap)
+    opens_in_memory(rt, &case, &DAY, &cards, expected, heap)?;
+    opens_in_a_file(rt, &case, &DAY, &cards, expected, heap)
 }
 
 #[test]
 fn numbers_that_rise_or_not(rt: HostRuntime) -> Result<(), Fail> {
     for order in &ORDERS {
-        let label = format_args!("{}, {}, {}", order.0, order.1, order.2);
-        in_this_order(&rt, order, rt.alloc()).note(label)?;
+        in_this_order(&rt, order, rt.alloc())?;
     }
     Ok(())
 }

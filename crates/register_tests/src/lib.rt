@@ -1,3 +1,5 @@
+#![tactic(auto)]
+
 // Tests of the three kinds of register: opened on sound and on broken days, cards and files, looked at, raised and layered.
 #[cfg(test)]
 mod breaches;

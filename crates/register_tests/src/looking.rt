@@ -21,17 +21,23 @@ fn card_of(cards: &[NumberedCard], resource: u16) -> Option<Card> {
 // Looking fills in the card that is held, or leaves the caller's as it is.
 fn answers<R: Register>(
     rt: &impl Abort,
+    case: &str,
     register: &R,
     resource: u16,
     held: Option<Card>,
     heap: Global,
 ) -> Result<(), Fail> {
     let mut card = rubbish_behind();
-    assert_eq!(rt; register.look(resource, &mut card), held.is_some());
+    assert_eq!(rt;
+        register.look(resource, &mut card),
+        held.is_some(),
+        "{case}, {resource}"
+    );
     let expected = held.unwrap_or(rubbish_behind());
     assert_eq!(rt;
         format!(in heap; "{card:?}")?,
-        format!(in heap; "{expected:?}")?
+        format!(in heap; "{expected:?}")?,
+        "{case}, {resource}"
     );
     Ok(())
 }
@@ -39,6 +45,7 @@ fn answers<R: Register>(
 // The register answers this day, and of the numbers asked for these cards alone.
 pub fn means<R: Register>(
     rt: &impl Abort,
+    case: &str,
     register: &R,
     day: &Day,
     cards: &[NumberedCard],
@@ -46,9 +53,20 @@ pub fn means<R: Register>(
     heap: Global,
 ) -> Result<(), Fail> {
     let held = register.day();
-    assert_eq!(rt; format!(in heap; "{held:?}")?, format!(in heap; "{day:?}")?);
+    assert_eq!(rt;
+        format!(in heap; "{held:?}")?,
+        format!(in heap; "{day:?}")?,
+        "{case}"
+    );
     for resource in asked {
-        answers(rt, register, *resource, card_of(cards, *resource), heap).note(*resource)?;
+        answers(
+            rt,
+            case,
+            register,
+            *resource,
+            card_of(cards, *resource),
+            heap,
+        )?;
     }
     Ok(())
 }
@@ -57,15 +75,16 @@ static ASKED: [u16; 12] = [0, 1, 2, 3, 4, 699, 700, 701, 702, 32_768, 65_534, 65
 
 // The cards in memory, in a file and under a layer without levels.
 fn mean_the_same(rt: &impl Abort, cards: &[NumberedCard], heap: Global) -> Result<(), Fail> {
+    let case = format!(in heap; "{} cards", cards.len())?;
     let mut row = CardRow::closed();
     row.open(DAY, cards)?;
-    means(rt, &row, &DAY, cards, &ASKED, heap)?;
-    means(rt, &Raised::new(row), &DAY, cards, &ASKED, heap)?;
+    means(rt, &case, &row, &DAY, cards, &ASKED, heap)?;
+    means(rt, &case, &Raised::new(row), &DAY, cards, &ASKED, heap)?;
     let written = file_of(&DAY, cards);
     let mut file = RegisterFile::closed();
     file.open(written.bytes())?;
-    means(rt, &file, &DAY, cards, &ASKED, heap)?;
-    means(rt, &Raised::new(file), &DAY, cards, &ASKED, heap)
+    means(rt, &case, &file, &DAY, cards, &ASKED, heap)?;
+    means(rt, &case, &Raised::new(file), &DAY, cards, &ASKED, heap)
 }
 
 // Numbers of three cards, with gaps and without.
@@ -80,7 +99,7 @@ fn looked_for_among_up_to_three_cards(rt: HostRuntime) -> Result<(), Fail> {
             numbered(*third, rubbish_behind()),
         ];
         for count in 0..4 {
-            mean_the_same(&rt, &cards[0..count], rt.alloc()).note(count)?;
+            mean_the_same(&rt, &cards[0..count], rt.alloc())?;
         }
     }
     Ok(())
@@ -96,25 +115,42 @@ fn closed_registers(rt: HostRuntime) -> Result<(), Fail> {
         hard_cap: 0,
         service_cap: 0,
     };
-    means(&rt, &CardRow::closed(), &day, &[], &ASKED, rt.alloc())?;
-    means(&rt, &RegisterFile::closed(), &day, &[], &ASKED, rt.alloc())
+    means(
+        &rt,
+        "in memory",
+        &CardRow::closed(),
+        &day,
+        &[],
+        &ASKED,
+        rt.alloc(),
+    )?;
+    means(
+        &rt,
+        "in a file",
+        &RegisterFile::closed(),
+        &day,
+        &[],
+        &ASKED,
+        rt.alloc(),
+    )
 }
 
 // A file whose first card has the fields of a map, and what it means.
 fn means_what_stands(rt: &impl Abort, map: u16, heap: Global) -> Result<(), Fail> {
+    let case = format!(in heap; "map {map}")?;
     let mut written = FileBytes::new(&DAY, 2);
     written.put_card(map, &numbered(3, full()));
     written.put_card(0, &numbered(700, narrow()));
     let cards = [numbered(3, standing(map, &full())), numbered(700, narrow())];
     let mut file = RegisterFile::closed();
     file.open(written.bytes())?;
-    means(rt, &file, &DAY, &cards, &[2, 3, 4, 700, 701], heap)
+    means(rt, &case, &file, &DAY, &cards, &[2, 3, 4, 700, 701], heap)
 }
 
 #[test]
 fn every_map_of_a_card(rt: HostRuntime) -> Result<(), Fail> {
     for map in 0..256 {
-        means_what_stands(&rt, map, rt.alloc()).note(map)?;
+        means_what_stands(&rt, map, rt.alloc())?;
     }
     Ok(())
 }

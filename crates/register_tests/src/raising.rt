@@ -96,6 +96,7 @@ struct Another(&'static str, u16, i32, Told);
 // A layer that means some cards answers as told; the level is raised if that is granted, and all else stays.
 fn raised_as_told<R: Register, const N: usize>(
     rt: &impl Abort,
+    case: &str,
     layer: &mut Raised<R>,
     cards: &mut [NumberedCard; N],
     another: &Another,
@@ -103,15 +104,16 @@ fn raised_as_told<R: Register, const N: usize>(
     heap: Global,
 ) -> Result<(), Fail> {
     let Another(_, resource, level, expected) = *another;
-    assert_eq!(rt; told(layer.raise(resource, level)), expected);
+    assert_eq!(rt; told(layer.raise(resource, level)), expected, "{case}");
     if expected == GRANTED {
         set_level(cards, resource, level);
     }
-    means(rt, layer, &DAY, &cards[..], asked, heap)
+    means(rt, case, layer, &DAY, &cards[..], asked, heap)
 }
 
 fn raised_alone(
     rt: &impl Abort,
+    case: &str,
     below: i32,
     level: i32,
     expected: Told,
@@ -123,13 +125,13 @@ fn raised_alone(
     row.open(DAY, &cards)?;
     let mut layer = Raised::new(row);
     let raise = Another("alone", 7, level, expected);
-    raised_as_told(rt, &mut layer, &mut after, &raise, &[6, 7, 8], heap)
+    raised_as_told(rt, case, &mut layer, &mut after, &raise, &[6, 7, 8], heap)
 }
 
 #[test]
 fn each_raise(rt: HostRuntime) -> Result<(), Fail> {
     for Raise(label, below, level, expected) in &RAISES {
-        raised_alone(&rt, *below, *level, *expected, rt.alloc()).note(*label)?;
+        raised_alone(&rt, *label, *below, *level, *expected, rt.alloc())?;
     }
     Ok(())
 }
@@ -182,10 +184,27 @@ fn thirty_two_raised_resources(rt: HostRuntime) -> Result<(), Fail> {
     let mut layer = Raised::new(row);
     for i in 0..32u16 {
         let raise = Another("to its threshold", 1 + 3 * i, 110 * i as i32, GRANTED);
-        raised_as_told(&rt, &mut layer, &mut after, &raise, &ASKED, rt.alloc()).note(i)?;
+        let case = format!(in rt.alloc(); "{i}")?;
+        raised_as_told(
+            &rt,
+            &case,
+            &mut layer,
+            &mut after,
+            &raise,
+            &ASKED,
+            rt.alloc(),
+        )?;
     }
     for another in &ANOTHER {
-        raised_as_told(&rt, &mut layer, &mut after, another, &ASKED, rt.alloc()).note(another.0)?;
+        raised_as_told(
+            &rt,
+            another.0,
+            &mut layer,
+            &mut after,
+            another,
+            &ASKED,
+            rt.alloc(),
+        )?;
     }
     Ok(())
 }
@@ -228,8 +247,24 @@ fn a_layer_over_a_layer_over_a_file(rt: HostRuntime) -> Result<(), Fail> {
     let mut upper = Raised::new(lower);
     let mut after = of_levels(132_000, 120_000, 120_000);
     for another in &UPPER {
-        raised_as_told(&rt, &mut upper, &mut after, another, &AROUND, rt.alloc()).note(another.0)?;
+        raised_as_told(
+            &rt,
+            another.0,
+            &mut upper,
+            &mut after,
+            another,
+            &AROUND,
+            rt.alloc(),
+        )?;
     }
     let expected = of_levels(140_000, 132_000, 120_000);
-    means(&rt, &upper, &DAY, &expected, &AROUND, rt.alloc())
+    means(
+        &rt,
+        "in the end",
+        &upper,
+        &DAY,
+        &expected,
+        &AROUND,
+        rt.alloc(),
+    )
 }
