@@ -9,6 +9,7 @@ use bid::Bid;
 use faults::{Answer, Fault};
 use register::{CardRow, Register};
 use rules::{Judged, judge, judge_bid};
+use std::fmt::Display;
 use std::process::Abort;
 use std::test::Fail;
 
@@ -23,21 +24,22 @@ fn answer(number: u8, layer: u8, place: u32) -> Answer {
 // A record judged into memory of some length: what is answered, and all that stands in memory after.
 fn judges(
     rt: &impl Abort,
+    case: &impl Display,
     register: &CardRow,
     coordinator: u8,
     record: &[u8],
     length: usize,
     verdict: (u8, u8, u32, u16, usize),
     row: &[u8],
-) -> Result<(), Fail> {
+) {
     let mut memory = memory_with(&[]);
-    assert!(rt; length <= ROOM);
+    assert!(rt; length <= ROOM, "{case}");
     assert_eq!(rt;
         judge(register, coordinator, record, &mut memory[0..length]),
-        verdict
+        verdict,
+        "{case}"
     );
-    assert!(rt; memory == memory_with(row), "what stands in memory");
-    Ok(())
+    assert!(rt; memory == memory_with(row), "{case}, what stands in memory");
 }
 
 // A record read, and the bid judged.
@@ -56,44 +58,72 @@ fn answered(res: Result<Judged, Fault>) -> Answer {
 // A refusal, with memory and without; coordinator 0 is not for judging a bid to check.
 fn refuses(
     rt: &impl Abort,
+    case: &impl Display,
     register: &CardRow,
     coordinator: u8,
     record: &[u8],
     expected: Answer,
-) -> Result<(), Fail> {
+) {
     let verdict = (expected.number, expected.layer, expected.place, 0, 0);
-    judges(rt, register, coordinator, record, ROOM, verdict, &[])?;
-    judges(rt, register, coordinator, record, 0, verdict, &[]).note("no memory")?;
+    judges(rt, case, register, coordinator, record, ROOM, verdict, &[]);
+    judges(
+        rt,
+        &format_args!("{case}, no memory"),
+        register,
+        coordinator,
+        record,
+        0,
+        verdict,
+        &[],
+    );
     if coordinator == 0 {
-        return Ok(());
+        return;
     }
     let found = answered(read_and_judge(register, coordinator, record));
-    assert_eq!(rt; found, expected, "as a bid");
-    Ok(())
+    assert_eq!(rt; found, expected, "{case}, as a bid");
 }
 
 // A row is written where it fits, and nothing where it does not.
 fn writes(
     rt: &impl Abort,
+    case: &impl Display,
     register: &CardRow,
     coordinator: u8,
     record: &[u8],
     marks: u16,
     row: &[u8],
-) -> Result<(), Fail> {
+) {
     let verdict = (0, 0, 0, marks, row.len());
-    judges(rt, register, coordinator, record, ROOM, verdict, row)?;
-    judges(rt, register, coordinator, record, row.len(), verdict, row).note("it just fits")?;
+    judges(rt, case, register, coordinator, record, ROOM, verdict, row);
+    judges(
+        rt,
+        &format_args!("{case}, it just fits"),
+        register,
+        coordinator,
+        record,
+        row.len(),
+        verdict,
+        row,
+    );
     for length in 0..row.len() {
         let too_short = (21, 4, 0, 0, 0);
-        judges(rt, register, coordinator, record, length, too_short, &[]).note(length)?;
+        judges(
+            rt,
+            &format_args!("{case}, {length}"),
+            register,
+            coordinator,
+            record,
+            length,
+            too_short,
+            &[],
+        );
     }
-    Ok(())
 }
 
 // The bid of a record comes out with these marks, and its row writes these bytes.
 fn comes_out(
     rt: &impl Abort,
+    case: &impl Display,
     register: &CardRow,
     coordinator: u8,
     record: &[u8],
@@ -101,53 +131,57 @@ fn comes_out(
     row: &[u8],
 ) -> Result<(), Fail> {
     let judged = read_and_judge(register, coordinator, record)?;
-    assert_eq!(rt; judged.marks, marks);
+    assert_eq!(rt; judged.marks, marks, "{case}");
     let mut memory = memory_with(&[]);
-    assert_eq!(rt; judged.row.write(&mut memory)?, row.len());
-    assert!(rt; memory == memory_with(row), "the row of a bid");
+    assert_eq!(rt; judged.row.write(&mut memory)?, row.len(), "{case}");
+    assert!(rt; memory == memory_with(row), "{case}, the row of a bid");
     Ok(())
 }
 
 // A record cut at any length, or followed by a byte.
 fn needs_every_byte(
     rt: &impl Abort,
+    case: &impl Display,
     register: &CardRow,
     coordinator: u8,
     record: &[u8],
-) -> Result<(), Fail> {
+) {
     let bytes = memory_with(record);
-    assert!(rt; record.len() < ROOM);
+    assert!(rt; record.len() < ROOM, "{case}");
     for n in 0..record.len() {
         refuses(
             rt,
+            &format_args!("{case}, {n}"),
             register,
             coordinator,
             &bytes[0..n],
             answer(1, 1, n as u32),
-        )
-        .note(n)?;
+        );
     }
     let left_over = answer(5, 1, record.len() as u32);
     refuses(
         rt,
+        case,
         register,
         coordinator,
         &bytes[0..record.len() + 1],
         left_over,
-    )
+    );
 }
 
 fn grants(
     rt: &impl Abort,
+    case: &impl Display,
     register: &CardRow,
     coordinator: u8,
     record: &[u8],
     marks: u16,
     row: &[u8],
 ) -> Result<(), Fail> {
-    writes(rt, register, coordinator, record, marks, row)?;
-    comes_out(rt, register, coordinator, record, marks, row)?;
-    needs_every_byte(rt, register, coordinator, record)
+    writes(rt, case, register, coordinator, record, marks, row);
+    comes_out(rt, case, register, coordinator, record, marks, row)?;
+    needs_every_byte(rt, case, register, coordinator, record);
+    Ok(())
 }
 
 fn are_apart(a: &Flaw, b: &Flaw) -> bool {
@@ -155,22 +189,23 @@ fn are_apart(a: &Flaw, b: &Flaw) -> bool {
 }
 
 // A filing with two flaws is refused for the first.
-fn tells_the_first(
-    rt: &impl Abort,
-    register: &CardRow,
-    first: &Flaw,
-    second: &Flaw,
-) -> Result<(), Fail> {
+fn tells_the_first(rt: &impl Abort, register: &CardRow, first: &Flaw, second: &Flaw) {
     let Flaw(label, place, bytes, number, layer, told) = *first;
     let mut filing = memory_with(&[OWNER]);
     lay(FULL, &mut filing, 1);
     lay(second.2, &mut filing, second.1);
     lay(bytes, &mut filing, place);
-    assert!(rt; FULL.len() < ROOM);
+    let case = format_args!("{label}, {}", second.0);
+    assert!(rt; FULL.len() < ROOM, "{case}");
     let record = &filing[1..FULL.len() + 1];
-    refuses(rt, register, filing[0], record, answer(number, layer, told))
-        .note(label)
-        .note(second.0)
+    refuses(
+        rt,
+        &case,
+        register,
+        filing[0],
+        record,
+        answer(number, layer, told),
+    );
 }
 
 fn refused_as_told(rt: &impl Abort, case: &Refused) -> Result<(), Fail> {
@@ -179,7 +214,8 @@ fn refused_as_told(rt: &impl Abort, case: &Refused) -> Result<(), Fail> {
     let mut register = CardRow::closed();
     register.open(length.day(), &cards)?;
     let expected = answer(number, layer, place);
-    refuses(rt, &register, coordinator, record, expected).note(label)
+    refuses(rt, &label, &register, coordinator, record, expected);
+    Ok(())
 }
 
 fn kept_as_filed(rt: &impl Abort, case: &Kept) -> Result<(), Fail> {
@@ -187,7 +223,7 @@ fn kept_as_filed(rt: &impl Abort, case: &Kept) -> Result<(), Fail> {
     let cards = CARDS;
     let mut register = CardRow::closed();
     register.open(length.day(), &cards)?;
-    grants(rt, &register, coordinator, record, 0, record).note(label)
+    grants(rt, &label, &register, coordinator, record, 0, record)
 }
 
 // A row judged again is kept.
@@ -196,42 +232,29 @@ fn mended_once(rt: &impl Abort, case: &Mended) -> Result<(), Fail> {
     let cards = CARDS;
     let mut register = CardRow::closed();
     register.open(length.day(), &cards)?;
-    grants(rt, &register, coordinator, record, marks, row).note(label)?;
-    grants(rt, &register, coordinator, row, 0, row)
-        .note("judged again")
-        .note(label)
+    grants(rt, &label, &register, coordinator, record, marks, row)?;
+    let again = format_args!("{label}, judged again");
+    grants(rt, &again, &register, coordinator, row, 0, row)
 }
 
 // A flaw is told before each of some others.
-fn told_before(
-    rt: &impl Abort,
-    register: &CardRow,
-    flaw: &Flaw,
-    others: &[Flaw],
-) -> Result<(), Fail> {
+fn told_before(rt: &impl Abort, register: &CardRow, flaw: &Flaw, others: &[Flaw]) {
     for other in others {
         if are_apart(flaw, other) {
-            tells_the_first(rt, register, flaw, other)?;
+            tells_the_first(rt, register, flaw, other);
         }
     }
-    Ok(())
 }
 
 // Each flaw of a table is told alone, and before those behind it and those of later tables.
-fn told_in_order(
-    rt: &impl Abort,
-    register: &CardRow,
-    table: &[Flaw],
-    later: &[&[Flaw]],
-) -> Result<(), Fail> {
+fn told_in_order(rt: &impl Abort, register: &CardRow, table: &[Flaw], later: &[&[Flaw]]) {
     for i in 0..table.len() {
-        tells_the_first(rt, register, &table[i], &table[i])?;
-        told_before(rt, register, &table[i], &table[i + 1..])?;
+        tells_the_first(rt, register, &table[i], &table[i]);
+        told_before(rt, register, &table[i], &table[i + 1..]);
         for others in later {
-            told_before(rt, register, &table[i], *others)?;
+            told_before(rt, register, &table[i], *others);
         }
     }
-    Ok(())
 }
 
 #[test]
@@ -271,7 +294,7 @@ fn flaws_alone_and_in_pairs(rt: HostRuntime) -> Result<(), Fail> {
     register.open(Length::Usual.day(), &cards)?;
     let tables = flaws();
     for t in 0..tables.len() {
-        told_in_order(&rt, &register, tables[t], &tables[t + 1..])?;
+        told_in_order(&rt, &register, tables[t], &tables[t + 1..]);
     }
     Ok(())
 }

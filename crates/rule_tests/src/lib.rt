@@ -1,3 +1,5 @@
+#![tactic(auto)]
+
 // Tests of the rules: bids judged by several cards and days, each held to the answer, the row and the memory expected.
 #[cfg(test)]
 mod flaws;
