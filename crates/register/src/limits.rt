@@ -1,9 +1,9 @@
 // Start-up pairs and ramp rows as fields.
+ghost use Rattle.std.specs.Prelude.{refl};
 ghost use Rattle.register.specs.Cards.{blank_limit, blank_limits};
 ghost use Rattle.register.specs.Kept.{is_limit};
 ghost use Rattle.register.specs.Limits.{limit_at, limit_bytes, limit_put, is_blank_limit, limits_at, limits_bytes, limits_put, limits_held, is_blank_limits};
-ghost use Rattle.register.specs.LimitFields.{limit_lawful, limit_puts, limits_lawful, limits_puts};
-ghost use Rattle.std.proofs.Common.{rules};
+ghost use Rattle.register.specs.LimitFields.{limit_lawful, limit_puts, limit_blank, limits_lawful, limits_puts, limits_blank};
 
 use crate::data::{RampLimits, StartUpLimit};
 use faults::Fault;
@@ -43,9 +43,9 @@ impl Row for StartUpLimit {
 
     ghost is_blank = { is_blank_limit };
 
-    ghost blanks = { Prim.search rules };
+    ghost blanks = { limit_blank };
 
-    ghost blanked = { Prim.search rules };
+    ghost blanked = { refl };
 
     fn blank() -> StartUpLimit {
         StartUpLimit {
@@ -96,9 +96,9 @@ impl Row for RampLimits {
 
     ghost is_blank = { is_blank_limits };
 
-    ghost blanks = { Prim.search rules };
+    ghost blanks = { limits_blank };
 
-    ghost blanked = { Prim.search rules };
+    ghost blanked = { refl };
 
     fn blank() -> RampLimits {
         RampLimits {
