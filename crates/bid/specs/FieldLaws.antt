@@ -8,7 +8,7 @@ use Rattle.wire.specs.Laws.{Lawful, Puts}
 use Rattle.wire.specs.Reading.{is_quantity}
 use Rattle.wire.specs.Writing.{put_at}
 use Rattle.wire.specs.Rows.{counted_bytes, counted_put}
-use Rattle.wire.proofs.CountedRows.{counted_lawful}
+use Rattle.wire.specs.CountedRows.{counted_lawful}
 use Rattle.wire.specs.Laid.{puts_bytes, puts_then, puts_counted}
 use Rattle.wire.specs.Lawful.{number_lawful, ranged_lawful, quantity_lawful, price_lawful, made_lawful, pair_lawful}
 use Rattle.bid.specs.declared.components.Curve.{Curve}

@@ -3,3 +3,4 @@ pub mod Kept
 pub mod Record
 pub mod Read
 pub mod FieldLaws
+pub mod Parts

@@ -7,24 +7,24 @@ ghost use Rattle.bid.specs.Fields.{curve_at, curve_bytes, curve_put, curve_held}
 ghost use Rattle.bid.specs.Fields.{start_up_at, start_up_bytes, start_up_put, start_up_held};
 ghost use Rattle.bid.specs.Fields.{ramp_at, ramp_bytes, ramp_put, ramp_held};
 ghost use Rattle.std.specs.Prelude.{◌≡◌, refl};
+ghost use Rattle.std.proofs.Common.{lit≤};
+ghost use Rattle.wire.specs.Reads.{Reads};
 ghost use Rattle.bid.specs.FieldLaws.{step_lawful, step_puts, step_blanks, service_lawful, service_puts, start_up_pair_lawful, start_up_pair_puts, start_up_pair_blanks, ramp_pair_lawful, ramp_pair_puts, ramp_pair_blanks, curve_lawful, curve_puts, start_up_lawful, start_up_puts, ramp_lawful, ramp_puts};
 
 use crate::components::{Curve, Ramp, RampPair, Service, StartUp, StartUpPair, Step};
 use faults::{Fault, RecordFault};
-use wire::field::{counted_at, put_counted};
-use wire::reading::{cost_at, down_time_at, place, price_at, quantity_at, rate_at};
-use wire::writing::{put_long, put_signed, put_word};
-use wire::{Field, Row};
+use wire::reader::fault_at;
+use wire::{Counted, Field, Reader, Row, Writer};
 
 // A quantity of at least 1.
-fn service_quantity_at(bytes: &[u8], at: usize) -> Result<(u32, usize), Fault>
-    ensures { result ≡ service_quantity_at bytes.now at }
+fn service_quantity(reader: &mut Reader) -> Result<u32, Fault>
+    ensures { Reads service_quantity_at reader.old result reader.new }
 {
-    let (quantity, next) = quantity_at(bytes, at)?;
-    if quantity == 0 {
-        return Err(Fault::Record(RecordFault::OutOfRange, place(at)));
+    let at = reader.at;
+    match reader.quantity()? {
+        0 => Err(fault_at(RecordFault::OutOfRange, at)),
+        quantity => Ok(quantity),
     }
-    Ok((quantity, next))
 }
 
 impl Field for Step {
@@ -42,15 +42,20 @@ impl Field for Step {
 
     ghost puts = { step_puts };
 
-    fn read(bytes: &[u8], at: usize) -> Result<(Step, usize), Fault> {
-        let (end, next) = quantity_at(bytes, at)?;
-        let (price, next) = price_at(bytes, next)?;
-        Ok((Step { end, price }, next))
+    fn read(reader: &mut Reader) -> Result<Step, Fault> {
+        Ok(Step {
+            end: reader.quantity()?,
+            price: reader.price()?,
+        })
     }
 
-    fn write(&self, out: &mut [u8], at: usize) -> Result<usize, Fault> {
-        let next = put_long(self.end, out, at)?;
-        put_signed(self.price, out, next)
+    fn write(&self, writer: &mut Writer) -> Result<(), Fault> {
+        writer.long(self.end)?;
+        writer.signed(self.price)
+    }
+
+    fn length(&self) -> usize {
+        Step::WIDTH as usize
     }
 }
 
@@ -59,12 +64,20 @@ impl Row for Step {
 
     ghost is_blank = { is_blank_step };
 
+    ghost WIDTH = { 8 };
+
+    const WIDTH: u8 = 8;
+
     ghost blanks = { step_blanks };
 
     ghost blanked = { refl };
 
+    ghost wide = { λ v. refl };
+
+    ghost narrow = { lit≤ tt };
+
     fn blank() -> Step {
-        Step { end: 0, price: 0 }
+        Step::default()
     }
 }
 
@@ -83,15 +96,20 @@ impl Field for Service {
 
     ghost puts = { service_puts };
 
-    fn read(bytes: &[u8], at: usize) -> Result<(Service, usize), Fault> {
-        let (quantity, next) = service_quantity_at(bytes, at)?;
-        let (price, next) = price_at(bytes, next)?;
-        Ok((Service { quantity, price }, next))
+    fn read(reader: &mut Reader) -> Result<Service, Fault> {
+        Ok(Service {
+            quantity: service_quantity(reader)?,
+            price: reader.price()?,
+        })
     }
 
-    fn write(&self, out: &mut [u8], at: usize) -> Result<usize, Fault> {
-        let next = put_long(self.quantity, out, at)?;
-        put_signed(self.price, out, next)
+    fn write(&self, writer: &mut Writer) -> Result<(), Fault> {
+        writer.long(self.quantity)?;
+        writer.signed(self.price)
+    }
+
+    fn length(&self) -> usize {
+        8
     }
 }
 
@@ -110,15 +128,20 @@ impl Field for StartUpPair {
 
     ghost puts = { start_up_pair_puts };
 
-    fn read(bytes: &[u8], at: usize) -> Result<(StartUpPair, usize), Fault> {
-        let (down_time, next) = down_time_at(bytes, at)?;
-        let (cost, next) = cost_at(bytes, next)?;
-        Ok((StartUpPair { down_time, cost }, next))
+    fn read(reader: &mut Reader) -> Result<StartUpPair, Fault> {
+        Ok(StartUpPair {
+            down_time: reader.down_time()?,
+            cost: reader.cost()?,
+        })
     }
 
-    fn write(&self, out: &mut [u8], at: usize) -> Result<usize, Fault> {
-        let next = put_word(self.down_time, out, at)?;
-        put_long(self.cost, out, next)
+    fn write(&self, writer: &mut Writer) -> Result<(), Fault> {
+        writer.word(self.down_time)?;
+        writer.long(self.cost)
+    }
+
+    fn length(&self) -> usize {
+        StartUpPair::WIDTH as usize
     }
 }
 
@@ -127,15 +150,20 @@ impl Row for StartUpPair {
 
     ghost is_blank = { is_blank_start_up_pair };
 
+    ghost WIDTH = { 6 };
+
+    const WIDTH: u8 = 6;
+
     ghost blanks = { start_up_pair_blanks };
 
     ghost blanked = { refl };
 
+    ghost wide = { λ v. refl };
+
+    ghost narrow = { lit≤ tt };
+
     fn blank() -> StartUpPair {
-        StartUpPair {
-            down_time: 0,
-            cost: 0,
-        }
+        StartUpPair::default()
     }
 }
 
@@ -154,15 +182,20 @@ impl Field for RampPair {
 
     ghost puts = { ramp_pair_puts };
 
-    fn read(bytes: &[u8], at: usize) -> Result<(RampPair, usize), Fault> {
-        let (level, next) = quantity_at(bytes, at)?;
-        let (rate, next) = rate_at(bytes, next)?;
-        Ok((RampPair { level, rate }, next))
+    fn read(reader: &mut Reader) -> Result<RampPair, Fault> {
+        Ok(RampPair {
+            level: reader.quantity()?,
+            rate: reader.rate()?,
+        })
     }
 
-    fn write(&self, out: &mut [u8], at: usize) -> Result<usize, Fault> {
-        let next = put_long(self.level, out, at)?;
-        put_long(self.rate, out, next)
+    fn write(&self, writer: &mut Writer) -> Result<(), Fault> {
+        writer.long(self.level)?;
+        writer.long(self.rate)
+    }
+
+    fn length(&self) -> usize {
+        RampPair::WIDTH as usize
     }
 }
 
@@ -171,12 +204,20 @@ impl Row for RampPair {
 
     ghost is_blank = { is_blank_ramp_pair };
 
+    ghost WIDTH = { 8 };
+
+    const WIDTH: u8 = 8;
+
     ghost blanks = { ramp_pair_blanks };
 
     ghost blanked = { refl };
 
+    ghost wide = { λ v. refl };
+
+    ghost narrow = { lit≤ tt };
+
     fn blank() -> RampPair {
-        RampPair { level: 0, rate: 0 }
+        RampPair::default()
     }
 }
 
@@ -195,15 +236,20 @@ impl Field for Curve {
 
     ghost puts = { curve_puts };
 
-    fn read(bytes: &[u8], at: usize) -> Result<(Curve, usize), Fault> {
-        let (start, next) = quantity_at(bytes, at)?;
-        let (steps, next) = counted_at(bytes, next)?;
-        Ok((Curve { start, steps }, next))
+    fn read(reader: &mut Reader) -> Result<Curve, Fault> {
+        Ok(Curve {
+            start: reader.quantity()?,
+            steps: Counted::read(reader)?,
+        })
     }
 
-    fn write(&self, out: &mut [u8], at: usize) -> Result<usize, Fault> {
-        let next = put_long(self.start, out, at)?;
-        put_counted(&self.steps, out, next)
+    fn write(&self, writer: &mut Writer) -> Result<(), Fault> {
+        writer.long(self.start)?;
+        self.steps.write(writer)
+    }
+
+    fn length(&self) -> usize {
+        4 + self.steps.length()
     }
 }
 
@@ -222,13 +268,18 @@ impl Field for StartUp {
 
     ghost puts = { start_up_puts };
 
-    fn read(bytes: &[u8], at: usize) -> Result<(StartUp, usize), Fault> {
-        let (pairs, next) = counted_at(bytes, at)?;
-        Ok((StartUp { pairs }, next))
+    fn read(reader: &mut Reader) -> Result<StartUp, Fault> {
+        Ok(StartUp {
+            pairs: Counted::read(reader)?,
+        })
     }
 
-    fn write(&self, out: &mut [u8], at: usize) -> Result<usize, Fault> {
-        put_counted(&self.pairs, out, at)
+    fn write(&self, writer: &mut Writer) -> Result<(), Fault> {
+        self.pairs.write(writer)
+    }
+
+    fn length(&self) -> usize {
+        self.pairs.length()
     }
 }
 
@@ -247,12 +298,17 @@ impl Field for Ramp {
 
     ghost puts = { ramp_puts };
 
-    fn read(bytes: &[u8], at: usize) -> Result<(Ramp, usize), Fault> {
-        let (pairs, next) = counted_at(bytes, at)?;
-        Ok((Ramp { pairs }, next))
+    fn read(reader: &mut Reader) -> Result<Ramp, Fault> {
+        Ok(Ramp {
+            pairs: Counted::read(reader)?,
+        })
     }
 
-    fn write(&self, out: &mut [u8], at: usize) -> Result<usize, Fault> {
-        put_counted(&self.pairs, out, at)
+    fn write(&self, writer: &mut Writer) -> Result<(), Fault> {
+        self.pairs.write(writer)
+    }
+
+    fn length(&self) -> usize {
+        self.pairs.length()
     }
 }

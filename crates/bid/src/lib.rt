@@ -11,3 +11,4 @@ pub use bid::Bid;
 pub use components::{
     Components, Curve, Ramp, RampPair, Service, Services, StartUp, StartUpPair, Step,
 };
+pub use making::LONGEST_RECORD;

@@ -6,9 +6,10 @@ ghost use Rattle.bid.specs.Record.{record_read, record_bytes, record_written, Re
 
 use crate::bid::Bid;
 use crate::components::Components;
-use crate::record::{put_record, record_at, record_length};
+use crate::record::{put_record, read_record, record_length};
 use faults::{Fault, RecordFault, WindowFault};
-use wire::reading::place;
+use wire::Reader;
+use wire::reader::fault_at;
 
 // The longest record: every component, with all its rows.
 pub const LONGEST_RECORD: usize = 178;
@@ -21,9 +22,10 @@ impl Bid {
         ensures left { TellsBytesLeft bytes.now }
         ensures placed { (result_answer result).place ≤ 178 }
     {
-        let (components, next) = record_at(bytes, 0)?;
-        if next < bytes.len() {
-            return Err(Fault::Record(RecordFault::BytesLeftOver, place(next)));
+        let mut reader = Reader { bytes, at: 0 };
+        let components = read_record(&mut reader)?;
+        if reader.at < bytes.len() {
+            return Err(fault_at(RecordFault::BytesLeftOver, reader.at));
         }
         Ok(Bid { components })
     }
@@ -45,7 +47,7 @@ impl Bid {
         if out.len() < self.length() {
             return Err(Fault::Window(WindowFault::MemoryTooShort, 0));
         }
-        put_record(&self.components, out, 0)
+        put_record(&self.components, out)
     }
 
     // The bid with these components, refused as the record that they are written in would be.
@@ -55,7 +57,7 @@ impl Bid {
     {
         let mut record = [0u8; LONGEST_RECORD];
         let length = record_length(components);
-        put_record(components, &mut record, 0)?;
-        Bid::read(&record[0..length])
+        put_record(components, &mut record)?;
+        Bid::read(&record[..length])
     }
 }

@@ -1,73 +1,82 @@
 // The bid record, read and written.
-ghost use Rattle.std.specs.Prelude.{◌≡◌, ◌+◌, ◌≤◌, length};
-ghost use Rattle.wire.specs.Bytes.{long_bytes};
+ghost use Rattle.std.specs.Prelude.{◌≡◌, ◌^◌, ◌≤◌, cond, length};
+ghost use Rattle.wire.specs.Maps.{map_of, stands};
+ghost use Rattle.bid.specs.Parts.{part_bit};
+ghost use Rattle.wire.specs.Reads.{Reads};
 ghost use Rattle.wire.specs.Rows.{optional_bytes};
-ghost use Rattle.bid.specs.Fields.{service_bytes, curve_bytes, start_up_bytes, ramp_bytes};
+ghost use Rattle.wire.specs.Writes.{Writes};
 ghost use Rattle.bid.specs.Record.{services_at, record_at, services_bytes, record_bytes, services_put, record_put, presences};
-ghost use Rattle.wire.specs.Maps.{map_of};
 
-use crate::components::{Components, Curve, Ramp, Service, Services, StartUp};
+use crate::components::{Components, Services};
 use faults::Fault;
-use wire::field::{optional_at, put_optional, rows_standing};
-use wire::reading::{byte_at, map_at, word_at};
-use wire::stands_in;
-use wire::writing::{put_byte, put_word};
+use wire::{Field, Reader, Writer, stands_in};
+
+// The components that a record's map tells of, the one under the lowest bit first.
+#[derive(Clone, Copy)]
+enum Part {
+    SelfSchedule,
+    Curve,
+    RegulationUp,
+    RegulationDown,
+    Spinning,
+    NonSpinning,
+    StartUp,
+    Ramp,
+}
+
+// Whether a component stands in a map.
+fn has(map: u16, part: Part) -> bool
+    ensures { result ≡ stands (part_bit part) map }
+{
+    stands_in(map, part as u32)
+}
 
 // The last bit of the map that has a meaning.
 const LAST_BIT: u32 = 7;
 
-fn services_at(map: u16, bytes: &[u8], at: usize) -> Result<(Services, usize), Fault>
-    ensures { result ≡ services_at map bytes.now at }
+fn services_of(map: u16, reader: &mut Reader) -> Result<Services, Fault>
+    ensures { Reads (services_at map) reader.old result reader.new }
 {
-    let (regulation_up, next) = optional_at(stands_in(map, 2), bytes, at)?;
-    let (regulation_down, next) = optional_at(stands_in(map, 3), bytes, next)?;
-    let (spinning, next) = optional_at(stands_in(map, 4), bytes, next)?;
-    let (non_spinning, next) = optional_at(stands_in(map, 5), bytes, next)?;
-    Ok((
-        Services {
-            regulation_up,
-            regulation_down,
-            spinning,
-            non_spinning,
-        },
-        next,
-    ))
+    Ok(Services {
+        regulation_up: reader.optional(has(map, Part::RegulationUp))?,
+        regulation_down: reader.optional(has(map, Part::RegulationDown))?,
+        spinning: reader.optional(has(map, Part::Spinning))?,
+        non_spinning: reader.optional(has(map, Part::NonSpinning))?,
+    })
 }
 
-// A record at a place, with whatever stands behind it.
-pub(crate) fn record_at(bytes: &[u8], at: usize) -> Result<(Components, usize), Fault>
-    ensures { result ≡ record_at bytes.now at }
+// A record, with whatever stands behind it.
+pub(crate) fn read_record(reader: &mut Reader) -> Result<Components, Fault>
+    ensures { Reads record_at reader.old result reader.new }
 {
-    let (resource, next) = word_at(bytes, at)?;
-    let (hour, next) = byte_at(bytes, next)?;
-    let (map, next) = map_at(LAST_BIT, bytes, next)?;
-    let (self_schedule, next) = optional_at(stands_in(map, 0), bytes, next)?;
-    let (curve, next) = optional_at(stands_in(map, 1), bytes, next)?;
-    let (services, next) = services_at(map, bytes, next)?;
-    let (start_up, next) = optional_at(stands_in(map, 6), bytes, next)?;
-    let (ramp, next) = optional_at(stands_in(map, 7), bytes, next)?;
-    Ok((
-        Components {
-            resource,
-            hour,
-            self_schedule,
-            curve,
-            services,
-            start_up,
-            ramp,
-        },
-        next,
-    ))
+    let resource = reader.word()?;
+    let hour = reader.byte()?;
+    let map = reader.map(LAST_BIT)?;
+    Ok(Components {
+        resource,
+        hour,
+        self_schedule: reader.optional(has(map, Part::SelfSchedule))?,
+        curve: reader.optional(has(map, Part::Curve))?,
+        services: services_of(map, reader)?,
+        start_up: reader.optional(has(map, Part::StartUp))?,
+        ramp: reader.optional(has(map, Part::Ramp))?,
+    })
 }
 
-fn put_services(services: &Services, out: &mut [u8], at: usize) -> Result<usize, Fault>
-    ensures answer { result ≡ (services_put services.now out.old at).0 }
-    ensures memory { out.new ≡ (services_put services.now out.old at).1 }
+fn write_services(services: &Services, writer: &mut Writer) -> Result<(), Fault>
+    ensures { Writes (services_put services.now) writer.old result writer.new }
 {
-    let next = put_optional(&services.regulation_up, out, at)?;
-    let next = put_optional(&services.regulation_down, out, next)?;
-    let next = put_optional(&services.spinning, out, next)?;
-    put_optional(&services.non_spinning, out, next)
+    writer.optional(&services.regulation_up)?;
+    writer.optional(&services.regulation_down)?;
+    writer.optional(&services.spinning)?;
+    writer.optional(&services.non_spinning)
+}
+
+// The bit of a component that stands, in its place.
+fn bit(part: Part, stands: bool) -> u16
+    ensures { result ≡ cond stands (2 ^ part_bit part) 0 }
+{
+    if stands { 1 << part as u16 } else { 0 }
 }
 
 // The map of a record: a bit for each component that is there, bit 0 the lowest.
@@ -75,81 +84,58 @@ fn map_of(components: &Components) -> u16
     ensures { result ≡ map_of (presences components.now) }
 {
     let services = &components.services;
-    components.self_schedule.is_some() as u16
-        + 2 * components.curve.is_some() as u16
-        + 4 * services.regulation_up.is_some() as u16
-        + 8 * services.regulation_down.is_some() as u16
-        + 16 * services.spinning.is_some() as u16
-        + 32 * services.non_spinning.is_some() as u16
-        + 64 * components.start_up.is_some() as u16
-        + 128 * components.ramp.is_some() as u16
+    bit(Part::SelfSchedule, components.self_schedule.is_some())
+        + bit(Part::Curve, components.curve.is_some())
+        + bit(Part::RegulationUp, services.regulation_up.is_some())
+        + bit(Part::RegulationDown, services.regulation_down.is_some())
+        + bit(Part::Spinning, services.spinning.is_some())
+        + bit(Part::NonSpinning, services.non_spinning.is_some())
+        + bit(Part::StartUp, components.start_up.is_some())
+        + bit(Part::Ramp, components.ramp.is_some())
 }
 
-pub(crate) fn put_record(components: &Components, out: &mut [u8], at: usize) -> Result<usize, Fault>
-    ensures answer { result ≡ (record_put components.now out.old at).0 }
-    ensures memory { out.new ≡ (record_put components.now out.old at).1 }
+fn write_record(components: &Components, writer: &mut Writer) -> Result<(), Fault>
+    ensures { Writes (record_put components.now) writer.old result writer.new }
 {
-    let next = put_word(components.resource, out, at)?;
-    let next = put_byte(components.hour, out, next)?;
-    let next = put_word(map_of(components), out, next)?;
-    let next = put_optional(&components.self_schedule, out, next)?;
-    let next = put_optional(&components.curve, out, next)?;
-    let next = put_services(&components.services, out, next)?;
-    let next = put_optional(&components.start_up, out, next)?;
-    put_optional(&components.ramp, out, next)
+    writer.word(components.resource)?;
+    writer.byte(components.hour)?;
+    writer.word(map_of(components))?;
+    writer.optional(&components.self_schedule)?;
+    writer.optional(&components.curve)?;
+    write_services(&components.services, writer)?;
+    writer.optional(&components.start_up)?;
+    writer.optional(&components.ramp)
 }
 
-fn self_schedule_length(self_schedule: &Option<u32>) -> usize
-    ensures value { result ≡ length (optional_bytes long_bytes self_schedule.now) }
-    ensures bound { result ≤ 4 }
+// Writes the record of some components at the front of `out`, and answers where it ends.
+pub(crate) fn put_record(components: &Components, out: &mut [u8]) -> Result<usize, Fault>
+    ensures answer { result ≡ (record_put components.now out.old 0).0 }
+    ensures memory { out.new ≡ (record_put components.now out.old 0).1 }
 {
-    if self_schedule.is_some() { 4 } else { 0 }
+    let mut writer = Writer::new(out);
+    write_record(components, &mut writer)?;
+    Ok(writer.at)
 }
 
-fn curve_length(curve: &Option<Curve>) -> usize
-    ensures value { result ≡ length (optional_bytes curve_bytes curve.now) }
-    ensures bound { result ≤ 85 }
+// How many bytes a field takes where there is one.
+fn length_of<T: Field>(value: &Option<T>) -> usize
+    ensures value { result ≡ length (optional_bytes T.Field.encoded value.now) }
+    ensures bound { result ≤ T.Field.longest }
 {
-    match curve {
-        Some(curve) => 5 + 8 * rows_standing(&curve.steps),
+    match value {
+        Some(value) => value.length(),
         None => 0,
     }
-}
-
-fn service_length(service: &Option<Service>) -> usize
-    ensures { result ≡ length (optional_bytes service_bytes service.now) }
-{
-    if service.is_some() { 8 } else { 0 }
 }
 
 fn services_length(services: &Services) -> usize
     ensures value { result ≡ length (services_bytes services.now) }
     ensures bound { result ≤ 32 }
 {
-    service_length(&services.regulation_up)
-        + service_length(&services.regulation_down)
-        + service_length(&services.spinning)
-        + service_length(&services.non_spinning)
-}
-
-fn start_up_length(start_up: &Option<StartUp>) -> usize
-    ensures value { result ≡ length (optional_bytes start_up_bytes start_up.now) }
-    ensures bound { result ≤ 19 }
-{
-    match start_up {
-        Some(start_up) => 1 + 6 * rows_standing(&start_up.pairs),
-        None => 0,
-    }
-}
-
-fn ramp_length(ramp: &Option<Ramp>) -> usize
-    ensures value { result ≡ length (optional_bytes ramp_bytes ramp.now) }
-    ensures bound { result ≤ 33 }
-{
-    match ramp {
-        Some(ramp) => 1 + 8 * rows_standing(&ramp.pairs),
-        None => 0,
-    }
+    length_of(&services.regulation_up)
+        + length_of(&services.regulation_down)
+        + length_of(&services.spinning)
+        + length_of(&services.non_spinning)
 }
 
 // How many bytes the record of some components has.
@@ -157,9 +143,9 @@ pub(crate) fn record_length(components: &Components) -> usize
     ensures value { result ≡ length (record_bytes components.now) }
     ensures bound { result ≤ 178 }
 {
-    5 + self_schedule_length(&components.self_schedule)
-        + curve_length(&components.curve)
+    5 + length_of(&components.self_schedule)
+        + length_of(&components.curve)
         + services_length(&components.services)
-        + start_up_length(&components.start_up)
-        + ramp_length(&components.ramp)
+        + length_of(&components.start_up)
+        + length_of(&components.ramp)
 }

@@ -1,5 +1,5 @@
 -- The first broken check, of lists put together. Assumes nothing.
-use Rattle.std.proofs.Common.{◌≡◌, ℕ, ◌+◌, ◌<◌, Bool, true, false, cond, List, [], ◌∷◌, ◌++◌, length, get_or, drop, Ok, Err, sym, refl, ap, ◌∙◌}
+use Rattle.std.proofs.Common.{◌≡◌, ℕ, ◌+◌, ◌<◌, Bool, true, false, cond, List, [], ◌∷◌, ◌++◌, length, get_or, drop, Err, sym, refl, ap, ◌∙◌}
 use Rattle.std.proofs.lemmas.List.{drop_more}
 use Rattle.faults.specs.declared.Fault.{Fault}
 use Rattle.checks.specs.Checks.{Check, Passed, first_broken, checks, filing_checks, self_schedule_checks, curve_checks, service_checks, services_checks, start_up_checks, ramp_checks}
@@ -15,15 +15,12 @@ cond-turn : (b : Bool) (f : Fault) (p q : Passed) → cond b (Err f) (in_turn p 
 cond-turn true f p q = refl
 cond-turn false f p q = refl
 
-pub first_append : (xs ys : List Check) → first_broken (xs ++ ys) ≡ in_turn (first_broken xs) (first_broken ys)
+first_append : (xs ys : List Check) → first_broken (xs ++ ys) ≡ in_turn (first_broken xs) (first_broken ys)
 first_append [] ys = refl
 first_append (x ∷ xs) ys = ap (cond x.1 (Err x.0)) (first_append xs ys) ∙ cond-turn x.1 x.0 (first_broken xs) (first_broken ys)
 
--- a group that is passed leaves the rest to answer; one that fails answers
-pub first_passed : (xs ys : List Check) → Ok tt ≡ first_broken xs → first_broken ys ≡ first_broken (xs ++ ys)
-first_passed xs ys e = ap (λ p. in_turn p (first_broken ys)) e ∙ sym (first_append xs ys)
-
-pub first_failed : (xs ys : List Check) (f : Fault) → Err f ≡ first_broken xs → Err f ≡ first_broken (xs ++ ys)
+-- a group that fails answers
+first_failed : (xs ys : List Check) (f : Fault) → Err f ≡ first_broken xs → Err f ≡ first_broken (xs ++ ys)
 first_failed xs ys f e = ap (λ p. in_turn p (first_broken ys)) e ∙ sym (first_append xs ys)
 
 services_passed_lem : (d : Day) (c : Card) (s : Services) → first_broken (services_checks d c s) ≡ services_passed d c s
@@ -51,9 +48,6 @@ module _ {X : Type 0} (xs : List X) (i : ℕ) (d : X) (within : i < length xs) (
     (opens : checks_of (get_or xs i d ∷ drop (i + 1) xs) ≡ group ++ others (drop (i + 1) xs)) where
   opened : checks_of (drop i xs) ≡ group ++ others (drop (i + 1) xs)
   opened = ap checks_of (drop_more xs i d within) ∙ opens
-
-  pub turn_passed : Ok tt ≡ first_broken group → first_broken (others (drop (i + 1) xs)) ≡ first_broken (checks_of (drop i xs))
-  turn_passed e = first_passed group (others (drop (i + 1) xs)) e ∙ sym (ap first_broken opened)
 
   pub turn_failed : (f : Fault) → Err f ≡ first_broken group → Err f ≡ first_broken (checks_of (drop i xs))
   turn_failed f e = first_failed group (others (drop (i + 1) xs)) f e ∙ sym (ap first_broken opened)

@@ -1,3 +1,4 @@
 pub mod Terms
 pub mod Checks
+pub mod Beside
 pub mod Passing

@@ -3,8 +3,9 @@
 
 mod filing;
 mod pairs;
+mod registered;
 mod steps;
 mod terms;
 
-pub use filing::check;
-pub use terms::{base, ceiling, extension_price, free, need};
+pub use registered::Registered;
+pub use terms::{free, need};

@@ -1,84 +1,101 @@
 // Start-up and ramp pairs beside those of the card.
-ghost use Rattle.std.specs.Prelude.{◌≡◌, ◌≤◌, length};
-ghost use Rattle.checks.specs.Checks.{first_broken, start_up_checks, pair_check, pair_checks, ramp_checks, row_check, row_checks};
+ghost use Rattle.std.specs.Prelude.{◌≡◌, Bool, Option};
+ghost use Rattle.faults.specs.declared.RuleFault.{RuleFault};
+ghost use Rattle.faults.specs.declared.RuleFault.TheVariants.{StartUp as StartUpFault, Ramp as RampFault};
+ghost use Rattle.wire.specs.Rows.{entries};
+ghost use Rattle.checks.specs.Checks.{first_broken, start_up_checks, ramp_checks};
+ghost use Rattle.checks.specs.Beside.{beside_checks, start_up_broken, ramp_broken};
 
 use bid::{Ramp, RampPair, StartUp, StartUpPair};
 use faults::{Fault, RuleFault};
 use register::{RampLimits, StartUpLimit};
-use wire::field::rows_of;
+use wire::Counted;
 
-fn check_pair(place: u32, least: u64, pair: &StartUpPair, limit: &StartUpLimit) -> Result<(), Fault>
-    ensures { result ≡ first_broken (pair_check place least pair.now limit.now) }
-{
-    if pair.down_time != limit.down_time
-        || pair.cost > limit.highest
-        || (pair.cost as u64) < least
-    {
-        return Err(Fault::Rule(RuleFault::StartUp, place));
-    }
-    Ok(())
+// A pair of a bid that stands beside one of the card's.
+trait Beside<L>: Copy {
+    // the fault that it is refused with
+    ghost FAULT: { RuleFault };
+
+    // whether it breaks what the card's pair and the pair before it ask for
+    ghost broken: { Option Self → Self → L → Bool };
+
+    const FAULT: RuleFault;
+
+    fn broken(&self, limit: &L, before: Option<Self>) -> bool
+        ensures { result ≡ broken before self.now limit.now };
 }
 
-// Each start-up pair in turn beside the card's.
-fn check_pairs(pairs: &[StartUpPair], limits: &[StartUpLimit]) -> Result<(), Fault>
-    requires few { length pairs.now ≤ 3 }
-    requires alike { length pairs.now ≡ length limits.now }
-    ensures { result ≡ first_broken (pair_checks 1 0 pairs.now limits.now) }
+// The same down time, a cost of at most the highest, and more than the cost before.
+impl Beside<StartUpLimit> for StartUpPair {
+    ghost FAULT = { StartUpFault };
+
+    ghost broken = { start_up_broken };
+
+    const FAULT: RuleFault = RuleFault::StartUp;
+
+    fn broken(&self, limit: &StartUpLimit, before: Option<StartUpPair>) -> bool
+        ensures { result ≡ start_up_broken before self.now limit.now }
+    {
+        self.down_time != limit.down_time
+            || self.cost > limit.highest
+            || before.is_some_and(|before| self.cost <= before.cost)
+    }
+}
+
+// The same level, and a rate from lowest to highest.
+impl Beside<RampLimits> for RampPair {
+    ghost FAULT = { RampFault };
+
+    ghost broken = { ramp_broken };
+
+    const FAULT: RuleFault = RuleFault::Ramp;
+
+    fn broken(&self, limit: &RampLimits, before: Option<RampPair>) -> bool
+        ensures { result ≡ ramp_broken before self.now limit.now }
+    {
+        self.level != limit.level || self.rate < limit.lowest || self.rate > limit.highest
+    }
+}
+
+// As many pairs as the card has, and each in turn beside the card's.
+fn check_beside<L, P: Beside<L>, const N: usize>(
+    limits: &Counted<L, N>,
+    pairs: &Counted<P, N>,
+) -> Result<(), Fault>
+    ensures { result ≡ first_broken (beside_checks P.FAULT P.broken (entries limits.now) (entries pairs.now)) }
 {
-    let mut least: u64 = 0;
-    for i in 0..pairs.len() {
-        check_pair(i as u32 + 1, least, &pairs[i], &limits[i])?;
-        least = pairs[i].cost as u64 + 1;
+    let limits = limits.standing();
+    let pairs = pairs.standing();
+    if pairs.len() != limits.len() {
+        return Err(Fault::Rule(P::FAULT, 0));
+    }
+    let mut before = None;
+    for (i, (pair, limit)) in pairs.iter().zip(limits).enumerate() {
+        if pair.broken(limit, before) {
+            return Err(Fault::Rule(P::FAULT, i as u32 + 1));
+        }
+        before = Some(*pair);
     }
     Ok(())
 }
 
 pub(crate) fn check_start_up(
-    limits: &[StartUpLimit],
+    limits: &Counted<StartUpLimit, 3>,
     start_up: &Option<StartUp>,
 ) -> Result<(), Fault>
-    ensures { result ≡ first_broken (start_up_checks limits.now start_up.now) }
+    ensures { result ≡ first_broken (start_up_checks (entries limits.now) start_up.now) }
 {
-    let Some(start_up) = start_up else {
-        return Ok(());
-    };
-    let pairs = rows_of(&start_up.pairs);
-    if pairs.len() != limits.len() {
-        return Err(Fault::Rule(RuleFault::StartUp, 0));
+    match start_up {
+        Some(start_up) => check_beside(limits, &start_up.pairs),
+        None => Ok(()),
     }
-    check_pairs(pairs, limits)
 }
 
-fn check_row(place: u32, pair: &RampPair, limits: &RampLimits) -> Result<(), Fault>
-    ensures { result ≡ first_broken (row_check place pair.now limits.now) }
+pub(crate) fn check_ramp(limits: &Counted<RampLimits, 4>, ramp: &Option<Ramp>) -> Result<(), Fault>
+    ensures { result ≡ first_broken (ramp_checks (entries limits.now) ramp.now) }
 {
-    if pair.level != limits.level || pair.rate < limits.lowest || pair.rate > limits.highest {
-        return Err(Fault::Rule(RuleFault::Ramp, place));
+    match ramp {
+        Some(ramp) => check_beside(limits, &ramp.pairs),
+        None => Ok(()),
     }
-    Ok(())
-}
-
-// Each ramp pair in turn beside the card's.
-fn check_rows(pairs: &[RampPair], limits: &[RampLimits]) -> Result<(), Fault>
-    requires few { length pairs.now ≤ 4 }
-    requires alike { length pairs.now ≡ length limits.now }
-    ensures { result ≡ first_broken (row_checks 1 pairs.now limits.now) }
-{
-    for i in 0..pairs.len() {
-        check_row(i as u32 + 1, &pairs[i], &limits[i])?;
-    }
-    Ok(())
-}
-
-pub(crate) fn check_ramp(limits: &[RampLimits], ramp: &Option<Ramp>) -> Result<(), Fault>
-    ensures { result ≡ first_broken (ramp_checks limits.now ramp.now) }
-{
-    let Some(ramp) = ramp else {
-        return Ok(());
-    };
-    let pairs = rows_of(&ramp.pairs);
-    if pairs.len() != limits.len() {
-        return Err(Fault::Rule(RuleFault::Ramp, 0));
-    }
-    check_rows(pairs, limits)
 }

@@ -2,28 +2,33 @@
 ghost use Rattle.std.specs.Prelude.{◌≡◌, ◌^◌, ◌<◌};
 ghost use Rattle.checks.specs.Terms.{ceiling as ceiling_of, extension_price, free as free_of, quantity_of, need as need_of, base as base_of};
 
+use crate::registered::Registered;
 use bid::{Components, Service, Services};
-use register::{Card, Day, Regulation};
+use register::Regulation;
 
-// Where energy begins: the self-schedule, or else PMin.
-pub fn base(card: &Card, bid: &Components) -> u32
-    ensures { result ≡ base_of card.now bid.now }
-{
-    bid.self_schedule.unwrap_or(card.pmin)
-}
+impl Registered<'_> {
+    // Where energy begins: the self-schedule, or else PMin.
+    pub fn base(&self, bid: &Components) -> u32
+        ensures { result ≡ base_of self.now.card.now bid.now }
+    {
+        bid.self_schedule.unwrap_or(self.card.pmin)
+    }
 
-// The larger of the soft cap and the smaller of level and hard cap.
-pub fn ceiling(day: &Day, card: &Card) -> i32
-    ensures { result ≡ ceiling_of day.now card.now }
-{
-    day.soft_cap.max(card.level.min(day.hard_cap))
-}
+    // The larger of the soft cap and the smaller of level and hard cap.
+    pub fn ceiling(&self) -> i32
+        ensures { result ≡ ceiling_of self.now.day.now self.now.card.now }
+    {
+        self.day
+            .soft_cap
+            .max(self.card.level.min(self.day.hard_cap))
+    }
 
-// The level brought into floor to ceiling.
-pub fn extension_price(day: &Day, card: &Card) -> i32
-    ensures { result ≡ extension_price day.now card.now }
-{
-    day.floor.max(card.level.min(ceiling(day, card)))
+    // The level brought into floor to ceiling.
+    pub fn extension_price(&self) -> i32
+        ensures { result ≡ extension_price self.now.day.now self.now.card.now }
+    {
+        self.day.floor.max(self.card.level.min(self.ceiling()))
+    }
 }
 
 // What of a regulation service is certified and not awarded in an hour.
@@ -37,10 +42,7 @@ fn quantity_of(service: &Option<Service>) -> u64
     ensures value { result ≡ quantity_of service.now }
     ensures bound { result < 2 ^ 32 }
 {
-    match service {
-        Some(service) => service.quantity as u64,
-        None => 0,
-    }
+    service.map_or(0, |service| service.quantity as u64)
 }
 
 // What the reserves need above the base.

@@ -1,19 +1,24 @@
 -- Steps of a curve: the last one, one more, and the price and end at which they stop. Assumes nothing.
-use Rattle.std.proofs.Common.{◌≡◌, ℕ, suc, ◌+◌, ◌-◌, ◌<◌, ◌≤◌, min, true, false, ltb, leb, List, [], ◌∷◌, ◌++◌, map, length, get_or, set, replicate, ℤ, Some, None, Ok, Err, Option, Result, sym, refl, ap, ◌∙◌, subst, append_assoc, arith}
+use Rattle.std.proofs.Common.{Some, Option, ◌≡◌, ℕ, suc, ◌+◌, ◌-◌, ◌<◌, ◌≤◌, min, Bool, true, false, ltb, leb, List, [], ◌∷◌, ◌++◌, length, get_or, set, replicate, ℤ, Ok, Err, Result, sym, refl, ap, ◌∙◌, subst, append_assoc, w32, to_z, of_z, SFits, arith}
 use lib.Signed.{le_z}
-use Rattle.std.proofs.lemmas.List.{set-append_left, set_at, take_at, length-map, length-append, length-set, get_or_append_left}
+use Rattle.std.specs.List.{slice_get}
+use Rattle.std.specs.Option.{option_map_or}
+use Rattle.std.proofs.lemmas.Option.{slice_get-get_or}
+use Rattle.std.proofs.lemmas.List.{set-append_left, set_at, length-append, length-set, get_or_append_left}
+use Rattle.std.proofs.lemmas.Int.{to_z-of_z}
 use Rattle.std.proofs.lemmas.Bool.{leb-true, and_parts, cond-true, cond-false, lt-ltb, le-ltb}
-use Rattle.bid.specs.declared.components.Curve.{Curve}
 use Rattle.faults.specs.declared.Fault.{Fault}
 use Rattle.faults.specs.declared.Fault.TheVariants.{Rule}
 use Rattle.faults.specs.declared.RuleFault.TheVariants.{EleventhStep}
 use Rattle.wire.specs.declared.counted.Counted.{Counted}
 use Rattle.wire.specs.Reading.{is_count}
 use Rattle.wire.specs.Rows.{entries, packed}
+use Rattle.bid.specs.declared.components.Curve.{Curve}
 use Rattle.bid.specs.declared.components.Step.{Step}
-use Rattle.bid.specs.Fields.{step, blank_step}
+use Rattle.bid.specs.Fields.{step, curve, blank_step}
 use Rattle.checks.specs.Terms.{end_of, steps_of}
-use Rattle.mending.specs.Mending.{price_of, lengthened, extended_steps, steps_made, capped_step, capped, Tidy}
+use Rattle.mending.specs.Mending.{price_of, lengthened, extended_steps, steps_made, curve_made, extended, Tidy, is_tidy}
+use Rattle.mending.proofs.Tidied.{tidy_so}
 
 -- the price at which steps stop is that of the last one
 pub price_last : (p : ℤ) (ss : List Step) → 0 < length ss → price_of p ss ≡ (get_or ss (length ss - 1) blank_step).price
@@ -24,12 +29,16 @@ price_last p (s ∷ t ∷ ss) h =
     price_last s.price (t ∷ ss) (omega arith) ∙ ap (λ k. (get_or (s ∷ t ∷ ss) k blank_step).price) e
 
 -- where steps end is where the last one does
-pub end_last : (e : ℕ) (ss : List Step) → 0 < length ss → (get_or ss (length ss - 1) blank_step).end ≡ end_of e ss
+end_last : (e : ℕ) (ss : List Step) → 0 < length ss → (get_or ss (length ss - 1) blank_step).end ≡ end_of e ss
 end_last e [] h = absurd (omega arith)
 end_last e (s ∷ []) h = refl
 end_last e (s ∷ t ∷ ss) h =
     let i : suc (suc (length ss)) - 1 ≡ suc (suc (length ss) - 1) = omega arith in
     ap (λ k. (get_or (s ∷ t ∷ ss) k blank_step).end) i ∙ end_last s.end (t ∷ ss) (omega arith)
+
+pub last_end : (e : ℕ) (ss : List Step) → option_map_or (λ s. s.end) (slice_get ss (length ss - 1)) e ≡ end_of e ss
+last_end e [] = refl
+last_end e (s ∷ ss) = ap (λ o. option_map_or (λ t. t.end) o e) (slice_get-get_or (s ∷ ss) (length (s ∷ ss) - 1) blank_step (omega arith)) ∙ end_last e (s ∷ ss) (omega arith)
 
 -- to lengthen the last step is to set it
 pub lengthened_last : (target : ℕ) (ss : List Step) → 0 < length ss → lengthened target ss ≡ set ss (length ss - 1) (step target (get_or ss (length ss - 1) blank_step).price)
@@ -101,25 +110,40 @@ module _ (c : Counted Step 10) (counted : is_count 10 c.count ≡ true) (tidy : 
   refuses price target h full =
       sym (ap steps_made (cond-false (le_z price (price_of price ss)) _ _ (ap (le_z price) (price_is price) ∙ h) ∙ cond-false (ltb (length ss) 10) _ _ (le-ltb (length ss) 10 (subst (λ k. 10 ≤ k) count_is full))))
 
-  pub extended_lengthens : (price : ℤ) (target : ℕ) → le_z price (get_or c.rows (c.count - 1) blank_step).price ≡ true
+  extended_lengthens : (price : ℤ) (target : ℕ) → le_z price (get_or c.rows (c.count - 1) blank_step).price ≡ true
       → ◌≡◌ {A = Result (Counted Step 10) Fault} (Ok (record { count = c.count; rows = set c.rows (c.count - 1) (step target (get_or c.rows (c.count - 1) blank_step).price) })) (steps_made (extended_steps target price (entries c)))
   unfolding ss
   extended_lengthens = lengthens
 
-  pub extended_grows : (price : ℤ) (target : ℕ) → le_z price (get_or c.rows (c.count - 1) blank_step).price ≡ false → c.count < 10
+  extended_grows : (price : ℤ) (target : ℕ) → le_z price (get_or c.rows (c.count - 1) blank_step).price ≡ false → c.count < 10
       → ◌≡◌ {A = Result (Counted Step 10) Fault} (Ok (record { count = c.count + 1; rows = set c.rows c.count (step target price) })) (steps_made (extended_steps target price (entries c)))
   unfolding ss
   extended_grows = grows
 
-  pub extended_refuses : (price : ℤ) (target : ℕ) → le_z price (get_or c.rows (c.count - 1) blank_step).price ≡ false → 10 ≤ c.count
+  extended_refuses : (price : ℤ) (target : ℕ) → le_z price (get_or c.rows (c.count - 1) blank_step).price ≡ false → 10 ≤ c.count
       → ◌≡◌ {A = Result (Counted Step 10) Fault} (Err (Rule EleventhStep 0)) (steps_made (extended_steps target price (entries c)))
   unfolding ss
   extended_refuses = refuses
 
--- a capped curve is as tidy as the filed one
-pub tidy_capped : (limit : ℤ) (v : Option Curve) → Tidy v → Tidy (capped limit v)
-tidy_capped limit None t = tt
-tidy_capped limit (Some v) t =
-    let xs : List Step = map (capped_step limit) (steps_of v) in
-    let long : length xs ≡ v.steps.count = length-map (steps_of v) (capped_step limit) ∙ sym (ap (λ d. d.count) t.1) in
-    (ap (is_count 10) long ∙ t.0, ap (packed blank_step 10) (sym (take_at xs (replicate (10 - length xs) blank_step) (length xs) refl)))
+-- a tidy curve is made to end at a target, or refused an eleventh step
+module _ (o : Option Curve) (v : Curve) (is : o ≡ Some v) (kept : is_tidy o ≡ true) (from target : ℕ) (price : ℤ) (price_fits : SFits w32 price) (last_fits : SFits w32 (get_or v.steps.rows (v.steps.count - 1) blank_step).price) where
+  abbrev Reads : Bool → Type 0
+  Reads b = le_z (to_z w32 (of_z w32 price)) (to_z w32 (of_z w32 (get_or v.steps.rows (v.steps.count - 1) blank_step).price)) ≡ b
+
+  told : (b : Bool) → Reads b → le_z price (get_or v.steps.rows (v.steps.count - 1) blank_step).price ≡ b
+  told b h = simp to_z-of_z at h
+
+  tidy : Tidy (Some v)
+  tidy = subst Tidy is (tidy_so o kept)
+
+  whole : {r : Result (Counted Step 10) Fault} → r ≡ steps_made (extended_steps target price (steps_of v)) → curve_made v.start r ≡ extended from target price o
+  whole e = ap (curve_made v.start) e ∙ ap (extended from target price) (sym is)
+
+  pub curve_lengthened : Reads true → ◌≡◌ {A = Result (Option Curve) Fault} (Ok (Some (curve v.start (record { count = v.steps.count; rows = set v.steps.rows (v.steps.count - 1) (step target (get_or v.steps.rows (v.steps.count - 1) blank_step).price) })))) (extended from target price o)
+  curve_lengthened h = whole (extended_lengthens v.steps tidy.0 tidy.1 price target (told true h))
+
+  pub curve_grown : Reads false → v.steps.count < 10 → ◌≡◌ {A = Result (Option Curve) Fault} (Ok (Some (curve v.start (record { count = v.steps.count + 1; rows = set v.steps.rows v.steps.count (step target price) })))) (extended from target price o)
+  curve_grown h room = whole (extended_grows v.steps tidy.0 tidy.1 price target (told false h) room)
+
+  pub eleventh_refused : Reads false → 10 ≤ v.steps.count → ◌≡◌ {A = Result (Option Curve) Fault} (Err (Rule EleventhStep 0)) (extended from target price o)
+  eleventh_refused h full = whole (extended_refuses v.steps tidy.0 tidy.1 price target (told false h) full)

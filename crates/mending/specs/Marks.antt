@@ -5,6 +5,8 @@ use Rattle.bid.specs.declared.components.Curve.{Curve}
 use Rattle.bid.specs.declared.components.Service.{Service}
 use Rattle.bid.specs.declared.components.Step.{Step}
 use Rattle.checks.specs.Terms.{steps_of}
+use Rattle.mending.specs.declared.marking.Mark.{Mark}
+use Rattle.mending.specs.declared.marking.Mark.TheVariants.{Price, Quantities, Spinning, NonSpinning, RegulationUp, RegulationDown}
 
 abbrev pub same_price : ℤ → ℤ → Bool
 same_price (pos a) (pos b) = a == b
@@ -43,6 +45,15 @@ same_quantities None None = true
 same_quantities None (Some w) = false
 same_quantities (Some v) None = false
 same_quantities (Some v) (Some w) = v.start == w.start && same_ends (steps_of v) (steps_of w)
+
+-- each mark's bit
+abbrev pub bit_of : Mark → ℕ
+bit_of Price = 1
+bit_of Quantities = 2
+bit_of Spinning = 4
+bit_of NonSpinning = 8
+bit_of RegulationUp = 16
+bit_of RegulationDown = 32
 
 -- the bit of a mark, where its part is not the same
 abbrev pub mark : ℕ → Bool → ℕ

@@ -6,13 +6,13 @@ use Rattle.faults.specs.declared.Fault.TheVariants.{Rule}
 use Rattle.faults.specs.declared.RuleFault.TheVariants.{ReserveAboveTop, EleventhStep}
 use Rattle.wire.specs.declared.counted.Counted.{Counted}
 use Rattle.wire.specs.Reading.{is_count}
-use Rattle.wire.specs.Rows.{packed}
+use Rattle.wire.specs.Rows.{packed, counted_held, optional_held}
 use Rattle.bid.specs.declared.components.Components.{Components}
 use Rattle.bid.specs.declared.components.Curve.{Curve}
 use Rattle.bid.specs.declared.components.Service.{Service}
 use Rattle.bid.specs.declared.components.Services.{Services}
 use Rattle.bid.specs.declared.components.Step.{Step}
-use Rattle.bid.specs.Fields.{step, curve, service, blank_step}
+use Rattle.bid.specs.Fields.{step, curve, service, blank_step, is_blank_step}
 use Rattle.register.specs.declared.data.Card.{Card}
 use Rattle.register.specs.declared.data.Day.{Day}
 use Rattle.checks.specs.Terms.{top, base, ceiling, extension_price, free, need, steps_of, curve_end}
@@ -94,6 +94,10 @@ extended from target price (Some v) = curve_made v.start (steps_made (extended_s
 abbrev pub Tidy : Option Curve → Type 0
 Tidy None = Unit {0}
 Tidy (Some v) = (is_count 10 v.steps.count ≡ true) × (v.steps ≡ packed blank_step 10 (steps_of v))
+
+-- the same as a test
+abbrev pub is_tidy : Option Curve → Bool
+is_tidy = optional_held (λ v. counted_held (λ s. true) is_blank_step v.steps)
 
 -- the reserves have to fit between base and top; then the curve reaches them
 abbrev pub reached : ℕ → ℕ → ℕ → ℤ → Option Curve → Result (Option Curve) Fault

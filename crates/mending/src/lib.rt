@@ -6,5 +6,5 @@ mod marking;
 mod row;
 mod services;
 
-pub use marking::marks;
+pub use marking::{Mark, marks};
 pub use row::mend_bid;

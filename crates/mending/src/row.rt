@@ -1,42 +1,29 @@
 // Mending a bid that passes the checks.
 ghost use Rattle.std.specs.Prelude.{◌≡◌};
-ghost use Rattle.mending.specs.Mending.{mended, Tidy};
+ghost use Rattle.mending.specs.Mending.{mended};
 
-use crate::curves::{capped, reached};
+use crate::curves::Capped;
 use crate::services::mended_services;
 use bid::{Bid, Components};
-use checks::{base, ceiling, extension_price, need};
+use checks::Registered;
 use faults::Fault;
-use register::{Card, Day};
 
 // The row that mending makes of a bid.
-pub(crate) fn mend(day: &Day, card: &Card, bid: &Components) -> Result<Components, Fault>
-    requires { Tidy bid.now.curve }
-    ensures { result ≡ mended day.now card.now bid.now }
+pub fn mend_bid(registered: &Registered, bid: &Bid) -> Result<Components, Fault>
+    ensures { result ≡ mended registered.now.day.now registered.now.card.now bid.now.components }
 {
-    let services = mended_services(card, bid);
-    let curve = capped(ceiling(day, card), &bid.curve);
-    let curve = reached(
-        base(card, bid),
-        card.pmax,
-        need(&services),
-        extension_price(day, card),
-        &curve,
+    let filed = &bid.components;
+    let services = mended_services(registered.card, filed);
+    let capped = Capped::of(registered.ceiling(), bid);
+    let curve = capped.reached(
+        registered.base(filed),
+        registered.card.pmax,
+        &services,
+        registered.extension_price(),
     )?;
     Ok(Components {
-        resource: bid.resource,
-        hour: bid.hour,
-        self_schedule: bid.self_schedule,
         curve,
         services,
-        start_up: bid.start_up,
-        ramp: bid.ramp,
+        ..*filed
     })
-}
-
-// The row of any bid: what a bid keeps is all that mending asks for.
-pub fn mend_bid(day: &Day, card: &Card, bid: &Bid) -> Result<Components, Fault>
-    ensures { result ≡ mended day.now card.now bid.now.components }
-{
-    mend(day, card, &bid.components)
 }

@@ -1,21 +1,23 @@
 // Ancillary services, mended.
 ghost use Rattle.std.specs.Prelude.{◌≡◌};
-ghost use Rattle.mending.specs.Mending.{regulated as regulated_of, reserve as reserve_of, has_energy, regulation_up, regulation_down, mended_services};
+ghost use Rattle.checks.specs.Terms.{free as free_of};
+ghost use Rattle.mending.specs.Mending.{regulated as regulated_of, reserve as reserve_of, has_energy, regulation_up, mended_services};
 
 use bid::{Components, Service, Services};
 use checks::free;
-use register::Card;
+use register::{Card, Regulation};
 
 // A regulation bid's quantity becomes what is free; with an award, one at price 0 is made.
-fn regulated(spare: u32, award: u32, filed: &Option<Service>) -> Option<Service>
-    ensures { result ≡ regulated_of spare award filed.now }
+fn regulated(hour: u8, regulation: &Regulation, filed: &Option<Service>) -> Option<Service>
+    ensures { result ≡ regulated_of (free_of hour regulation.now) regulation.now.award filed.now }
 {
+    let spare = free(hour, regulation);
     match filed {
         Some(service) if spare >= 1 => Some(Service {
             quantity: spare,
             price: service.price,
         }),
-        None if award >= 1 && spare >= 1 => Some(Service {
+        None if regulation.award >= 1 && spare >= 1 => Some(Service {
             quantity: spare,
             price: 0,
         }),
@@ -28,22 +30,8 @@ fn regulation_up(card: &Card, bid: &Components) -> Option<Service>
 {
     match bid.self_schedule {
         Some(quantity) if quantity > card.regulation_limit => None,
-        _ => regulated(
-            free(bid.hour, &card.up),
-            card.up.award,
-            &bid.services.regulation_up,
-        ),
+        _ => regulated(bid.hour, &card.up, &bid.services.regulation_up),
     }
-}
-
-fn regulation_down(card: &Card, bid: &Components) -> Option<Service>
-    ensures { result ≡ regulation_down card.now bid.now }
-{
-    regulated(
-        free(bid.hour, &card.down),
-        card.down.award,
-        &bid.services.regulation_down,
-    )
 }
 
 // A reserve stays where energy is offered too.
@@ -61,7 +49,7 @@ pub(crate) fn mended_services(card: &Card, bid: &Components) -> Services
 {
     Services {
         regulation_up: regulation_up(card, bid),
-        regulation_down: regulation_down(card, bid),
+        regulation_down: regulated(bid.hour, &card.down, &bid.services.regulation_down),
         spinning: reserve(bid, bid.services.spinning),
         non_spinning: reserve(bid, bid.services.non_spinning),
     }

@@ -1,14 +1,19 @@
 -- Raised levels as a list: where one stands, and what is held after one is put in. Assumes nothing.
-use Rattle.std.proofs.Common.{◌≡◌, ℕ, suc, ◌+◌, ◌<◌, ◌≤◌, Bool, true, false, cond, ◌&&◌, eqb, ltb, leb, ◌⊎◌, List, [], ◌∷◌, ◌++◌, length, get_or, take, drop, set, ℤ, pos, is_some, Some, None, sym, refl, ap, ◌∙◌, subst, inl, inr, arith}
+use Rattle.std.proofs.Common.{◌≡◌, ℕ, suc, ◌+◌, ◌<◌, ◌≤◌, Bool, true, false, cond, ◌&&◌, eqb, ltb, leb, ◌⊎◌, List, [], ◌∷◌, ◌++◌, length, get_or, take, set, ℤ, pos, is_some, Some, None, Option, Bor, sym, refl, ap, ◌∙◌, subst, inl, inr, arith}
 use lib.Seq.{take-set-lt}
-use Rattle.std.proofs.lemmas.List.{drop_more, length-take-le, get_or-take, take_more_set, length-set}
-use Rattle.std.proofs.lemmas.Bool.{cases_Bool, cond-true, cond-false, and_parts, and_from, eqb-true, eq-eqb, ne_eqb, both_ways, leb-true, cases_lt, lt-ltb, le-ltb, or_left, or_right, or_from, le-leb}
+use Rattle.std.proofs.lemmas.List.{length-take-le, get_or-take, take_more_set, length-set}
+use Rattle.std.proofs.lemmas.Bool.{cases_Bool, cond-true, cond-false, and_parts, and_from, eqb-true, ltb-true, ltb-false, eq-eqb, ne_eqb, both_ways, leb-true, cases_lt, lt-ltb, le-ltb, or_left, or_right, or_from, le-leb}
+use Rattle.std.specs.List.{position_or_len, find}
+use Rattle.std.specs.Option.{option_map, IsSomeAnd, MatchOption}
+use Rattle.register.specs.RowKeeps.{some_same, none_some}
+use Rattle.std.proofs.lemmas.List.Recursion.{is_position_or_len}
 use Rattle.wire.specs.Reading.{is_price}
 use Rattle.wire.specs.declared.counted.Counted.{Counted}
 use Rattle.wire.specs.Rows.{entries, all_held}
 use Rattle.raised.specs.declared.level.RaisedLevel.{RaisedLevel}
 use Rattle.raised.specs.Levels.{raised_level, has_price, levels_kept, level_of, put_level, has_place}
-use Rattle.raised.specs.Tables.{place_in}
+use Rattle.raised.specs.RaisedKeeps.{priced}
+use Rattle.raised.specs.Tables.{place_in, place_of}
 
 -- what no place holds
 abbrev pub no_level : RaisedLevel
@@ -30,15 +35,9 @@ module _ (c : Counted RaisedLevel 32) (kept : levels_kept c ≡ true) where
   pub levels_long : length (entries c) ≡ c.count
   levels_long = length-take-le c.count c.rows (omega (arith, few, rows_long))
 
-  pub priced : all_held has_price (entries c) ≡ true
-  priced = parts₁.1
-
--- not here: one place on
-pub place_more : (n : ℕ) (x : RaisedLevel) (xs : List RaisedLevel) (i : ℕ) → eqb x.resource n ≡ false → i + place_in n (x ∷ xs) ≡ i + 1 + place_in n xs
-place_more n x xs i h = ap (λ k. i + k) (cond-false (eqb x.resource n) _ _ h) ∙ omega arith
-
-pub place_here : (n : ℕ) (x : RaisedLevel) (xs : List RaisedLevel) (i : ℕ) → eqb x.resource n ≡ true → i + place_in n (x ∷ xs) ≡ i
-place_here n x xs i h = ap (λ k. i + k) (cond-true (eqb x.resource n) _ _ h) ∙ omega arith
+-- the place is where a search by the number ends
+pub place_is : (n : ℕ) (xs : List RaisedLevel) → cond (ltb (position_or_len (λ x. eqb x.resource n) xs) (length xs)) (Some (position_or_len (λ x. eqb x.resource n) xs)) None ≡ place_of n xs
+place_is n xs = ap (λ k. cond (ltb k (length xs)) (Some k) None) (sym (is_position_or_len (place_in n) (λ x. eqb x.resource n) refl (λ x ys. ap (cond (eqb x.resource n) 0) (omega arith)) xs))
 
 pub place_within : (n : ℕ) (xs : List RaisedLevel) → place_in n xs ≤ length xs
 place_within n [] = omega arith
@@ -46,6 +45,43 @@ place_within n (x ∷ xs) = elim (cases_Bool (eqb x.resource n)) [
   | inl h ↦ subst (λ k. k ≤ suc (length xs)) (sym (cond-true (eqb x.resource n) _ _ h)) (omega arith)
   | inr h ↦ subst (λ k. k ≤ suc (length xs)) (sym (cond-false (eqb x.resource n) _ _ h)) (omega (arith, place_within n xs))
 ]
+
+-- the place of a resource's level is a place of the list, or there is none
+pub place_some : (n : ℕ) (xs : List RaisedLevel) (at : ℕ) → Some at ≡ place_of n xs → (at ≡ place_in n xs) × (place_in n xs < length xs)
+place_some n xs at e = elim (cases_Bool (ltb (place_in n xs) (length xs))) [
+  | inl h ↦ (some_same (e ∙ cond-true (ltb (place_in n xs) (length xs)) _ _ h), ltb-true (place_in n xs) (length xs) h)
+  | inr h ↦ absurd (none_some at (sym (e ∙ cond-false (ltb (place_in n xs) (length xs)) _ _ h)))
+]
+
+pub place_none : (n : ℕ) (xs : List RaisedLevel) → None ≡ place_of n xs → place_in n xs ≡ length xs
+place_none n xs e = elim (cases_Bool (ltb (place_in n xs) (length xs))) [
+  | inl h ↦ absurd (none_some (place_in n xs) (e ∙ cond-true (ltb (place_in n xs) (length xs)) _ _ h))
+  | inr h ↦ omega (arith, place_within n xs, ltb-false (place_in n xs) (length xs) h)
+]
+
+place_has : (n : ℕ) (xs : List RaisedLevel) (d : RaisedLevel) → place_in n xs < length xs → (get_or xs (place_in n xs) d).resource ≡ n
+place_has n [] d l = absurd (omega arith)
+place_has n (x ∷ xs) d l = elim (cases_Bool (eqb x.resource n)) [
+  | inl h ↦ ap (λ k. (get_or (x ∷ xs) k d).resource) (cond-true (eqb x.resource n) _ _ h) ∙ eqb-true x.resource n h
+  | inr h ↦ (
+      let e : place_in n (x ∷ xs) ≡ suc (place_in n xs) = cond-false (eqb x.resource n) _ _ h in
+      let m : place_in n xs < length xs = omega arith in
+      ap (λ k. (get_or (x ∷ xs) k d).resource) e ∙ place_has n xs d m)
+]
+
+-- what a search by the number finds
+level_found : (n : ℕ) (xs : List RaisedLevel) → option_map (λ x. x.level) (find (λ x. eqb x.resource n) xs) ≡ level_of xs n
+level_found n [] = refl
+level_found n (x ∷ xs) = elim (cases_Bool (eqb x.resource n)) [
+  | inl h ↦ ap (option_map (λ y. y.level)) (cond-true (eqb x.resource n) _ _ h) ∙ sym (cond-true (eqb x.resource n) _ _ h)
+  | inr h ↦ ap (option_map (λ y. y.level)) (cond-false (eqb x.resource n) _ _ h) ∙ level_found n xs ∙ sym (cond-false (eqb x.resource n) _ _ h)
+]
+
+pub found_level : (n : ℕ) (xs : List RaisedLevel) (o : Option (Bor RaisedLevel)) (r : Option ℤ) {P : Bor RaisedLevel → ℤ → Type 0} → option_map (λ x. x.now) o ≡ find (λ x. eqb x.resource n) xs
+    → MatchOption o (r ≡ None) (λ x. IsSomeAnd r (P x)) → ((x : Bor RaisedLevel) (l : ℤ) → P x l → l ≡ x.now.level) → r ≡ level_of xs n
+found_level n xs None r e m k = m ∙ ap (option_map (λ y. y.level)) e ∙ level_found n xs
+found_level n xs (Some x) None e m k = absurd m
+found_level n xs (Some x) (Some l) e m k = ap Some (k x l m) ∙ ap (option_map (λ y. y.level)) e ∙ level_found n xs
 
 -- the level at its place is the one that is held
 pub level_at_lem : (n : ℕ) (xs : List RaisedLevel) (d : RaisedLevel) → place_in n xs < length xs → level_of xs n ≡ Some (get_or xs (place_in n xs) d).level
@@ -115,12 +151,6 @@ level_put k l (x ∷ xs) n = elim (cases_Bool (eqb x.resource k)) [
       ])
 ]
 
--- what stands at a place among the first so many
-pub front_more : {A : Type 0} (xs : List A) (n i : ℕ) (d : A) → i < n → n ≤ length xs → drop i (take n xs) ≡ get_or xs i d ∷ drop (i + 1) (take n xs)
-front_more xs n i d lt within =
-    let inside : i < length (take n xs) = omega (arith, length-take-le n xs within) in
-    drop_more (take n xs) i d inside ∙ ap (λ x. x ∷ drop (i + 1) (take n xs)) (get_or-take n xs i d lt)
-
 -- a place is left exactly where the 32nd is not the first that is
 pub has_place_lem : (xs : List RaisedLevel) (n : ℕ) → place_in n xs < 32 → has_place xs n ≡ true
 has_place_lem xs n lt = elim (cases_lt (place_in n xs) (length xs)) [
@@ -149,34 +179,55 @@ module _ (rows : List RaisedLevel) (count n : ℕ) (l : ℤ) (within : count ≤
       let e : place_in n (take count rows) < length (take count rows) = omega (arith, is, size) in
       take-set-lt count rows at (raised_level n l) lt ∙ ap (λ k. set (take count rows) k (raised_level n l)) is ∙ sym (put_inside n l (take count rows) e)
 
--- a table with one more level, or with another in one's place
-abbrev pub written : Counted RaisedLevel 32 → ℕ → ℕ → ℕ → ℤ → Counted RaisedLevel 32
-written t count at n l = record { count = count; rows = set t.rows at (raised_level n l) }
+-- a table with another level in one's place, or with one more behind the others
+abbrev pub replaced : Counted RaisedLevel 32 → ℕ → ℤ → Counted RaisedLevel 32
+replaced t at l = record { count = t.count; rows = set t.rows at (raised_level (get_or t.rows at no_level).resource l) }
 
-module _ (t : Counted RaisedLevel 32) (kept : levels_kept t ≡ true) (n at : ℕ) (l m : ℤ) (same : m ≡ l) (price : is_price l ≡ true) (is : at ≡ place_in n (entries t)) (left : at ≡ 32 → ⊥)
-    (u : Counted RaisedLevel 32) (way : ((at ≡ t.count) × (u ≡ written t (t.count + 1) at n m)) ⊎ ((at ≡ t.count → ⊥) × (u ≡ written t t.count at n m))) where
+abbrev pub added : Counted RaisedLevel 32 → ℕ → ℤ → Counted RaisedLevel 32
+added t n l = record { count = t.count + 1; rows = set t.rows t.count (raised_level n l) }
+
+-- how a level is put into a table
+abbrev pub Put : Counted RaisedLevel 32 → ℕ → ℤ → Counted RaisedLevel 32 → Type 0
+Put t n l u = ((at : ℕ) × (Some at ≡ place_of n (entries t)) × (u ≡ replaced t at l)) ⊎ ((None ≡ place_of n (entries t)) × (t.count ≡ 32 → ⊥) × (u ≡ added t n l))
+
+module _ (t : Counted RaisedLevel 32) (kept : levels_kept t ≡ true) (n : ℕ) where
   within : t.count ≤ length t.rows
   within = omega (arith, few t kept, rows_long t kept)
 
-  inside : at ≤ t.count
-  inside = omega (arith, is, place_within n (entries t), levels_long t kept)
+  pub table_full : None ≡ place_of n (entries t) → t.count ≡ 32 → has_place (entries t) n ≡ false
+  table_full none full = no_place (entries t) n (omega (arith, levels_long t kept)) (omega (arith, place_none n (entries t) none, levels_long t kept))
 
-  -- the levels of the new table are the old ones with the level put in
-  pub table_levels : entries u ≡ put_level n l (entries t)
-  table_levels = elim way [
-    | inl w ↦ ap entries w.1 ∙ ap (λ z. entries (written t (t.count + 1) at n z)) same ∙ table_more t.rows t.count n l within at is w.0 (omega (arith, few t kept, rows_long t kept))
-    | inr w ↦ ap entries w.1 ∙ ap (λ z. entries (written t t.count at n z)) same ∙ table_same t.rows t.count n l within at is (omega (arith, inside))
-  ]
+  module _ (l m : ℤ) (same : m ≡ l) (u : Counted RaisedLevel 32) (put : Put t n m u) where
+    pub table_has_place : has_place (entries t) n ≡ true
+    table_has_place = has_place_lem (entries t) n (elim put [
+      | inl w ↦ omega (arith, (place_some n (entries t) w.0 w.1).1, levels_long t kept, few t kept)
+      | inr w ↦ (let end : t.count ≡ 32 → ⊥ = w.1 in omega (arith, place_none n (entries t) w.0, levels_long t kept, few t kept))
+    ])
 
-  pub table_kept : levels_kept u ≡ true
-  table_kept =
-      let counts : u.count ≤ 32 = elim way [
-        | inl w ↦ omega (arith, ap (λ v. v.count) w.1, few t kept)
-        | inr w ↦ omega (arith, ap (λ v. v.count) w.1, few t kept)
-      ] in
-      let long : length u.rows ≡ 32 = elim way [
-        | inl w ↦ ap (λ v. length v.rows) w.1 ∙ length-set t.rows at (raised_level n m) ∙ rows_long t kept
-        | inr w ↦ ap (λ v. length v.rows) w.1 ∙ length-set t.rows at (raised_level n m) ∙ rows_long t kept
-      ] in
-      and_from _ _ (and_from _ _ (le-leb u.count 32 counts) (eq-eqb (length u.rows) 32 long))
-      (ap (all_held has_price) table_levels ∙ put_passes has_price n l (entries t) price (priced t kept))
+    -- the levels of the new table are the old ones with the level put in
+    pub table_levels : entries u ≡ put_level n l (entries t)
+    table_levels = elim put [
+      | inl w ↦ (
+          let p = place_some n (entries t) w.0 w.1 in
+          let lt : w.0 < t.count = omega (arith, p.0, p.1, levels_long t kept) in
+          let has : (get_or t.rows w.0 no_level).resource ≡ n =
+          ap (λ x. x.resource) (sym (get_or-take t.count t.rows w.0 no_level lt)) ∙ ap (λ k. (get_or (entries t) k no_level).resource) p.0 ∙ place_has n (entries t) no_level p.1 in
+          ap entries w.2 ∙ (λ j. take t.count (set t.rows w.0 (raised_level (has j) (same j)))) ∙ table_same t.rows t.count n l within w.0 p.0 lt)
+      | inr w ↦ (
+          let is : t.count ≡ place_in n (entries t) = omega (arith, place_none n (entries t) w.0, levels_long t kept) in
+          let end : t.count ≡ 32 → ⊥ = w.1 in
+          ap entries w.2 ∙ ap (λ z. entries (added t n z)) same ∙ table_more t.rows t.count n l within t.count is refl (omega (arith, few t kept, rows_long t kept)))
+    ]
+
+    pub table_kept : is_price l ≡ true → levels_kept u ≡ true
+    table_kept price =
+        let counts : u.count ≤ 32 = elim put [
+          | inl w ↦ omega (arith, ap (λ v. v.count) w.2, few t kept)
+          | inr w ↦ (let end : t.count ≡ 32 → ⊥ = w.1 in omega (arith, ap (λ v. v.count) w.2, few t kept))
+        ] in
+        let long : length u.rows ≡ 32 = elim put [
+          | inl w ↦ ap (λ v. length v.rows) w.2 ∙ length-set t.rows w.0 _ ∙ rows_long t kept
+          | inr w ↦ ap (λ v. length v.rows) w.2 ∙ length-set t.rows t.count _ ∙ rows_long t kept
+        ] in
+        and_from _ _ (and_from _ _ (le-leb u.count 32 counts) (eq-eqb (length u.rows) 32 long))
+        (ap (all_held has_price) table_levels ∙ put_passes has_price n l (entries t) price (priced t kept))

@@ -1,93 +1,20 @@
 -- Raised levels over a register: what is kept, what is looked up, and what a list of raises comes to. Assumes nothing.
-use Rattle.std.proofs.Common.{◌≡◌, ℕ, true, false, cond, eqb, ◌⊎◌, List, [], ◌∷◌, ℤ, is_some, is_ok, Some, None, Ok, Err, Option, Result, sym, refl, ap, ◌∙◌, subst, inl, inr, arith}
+use Rattle.std.proofs.Common.{◌≡◌, ℕ, true, false, cond, eqb, List, [], ◌∷◌, ℤ, is_some, is_ok, Some, None, Ok, Err, Option, Result, sym, refl, ap, ◌∙◌, inl, inr, arith}
 use lib.Signed.{lt_z, le_z}
-use Rattle.std.proofs.lemmas.Bool.{cases_Bool, cond-true, cond-false, and_parts, and_from, both_ways, eqb-true, and_left, and_right}
+use Rattle.std.proofs.lemmas.Bool.{cases_Bool, cond-true, cond-false, and_from, both_ways, eqb-true}
 use Rattle.std.proofs.lemmas.Int.{ints}
 use Rattle.faults.specs.declared.Fault.{Fault}
-use Rattle.faults.specs.declared.Fault.TheVariants.{Record, Register}
-use Rattle.faults.specs.declared.RecordFault.TheVariants.{OutOfRange}
-use Rattle.faults.specs.declared.RegisterFault.TheVariants.{ResourceNotHeld, RaiseNotAllowed}
+use Rattle.faults.specs.declared.Fault.TheVariants.{Register}
+use Rattle.faults.specs.declared.RegisterFault.TheVariants.{RaiseNotAllowed}
 use Rattle.wire.specs.Reading.{is_price}
-use Rattle.wire.specs.Rows.{all_held}
 use Rattle.register.specs.declared.data.Card.{Card}
 use Rattle.raised.specs.declared.level.RaisedLevel.{RaisedLevel}
-use Rattle.register.specs.Kept.{card_kept}
-use Rattle.raised.specs.Levels.{threshold, has_price, level_of, put_level, put_answer, may_raise, raise_of, raise_answer, levels_after, higher, with_level, raised_card, raised_meaning}
+use Rattle.raised.specs.Levels.{threshold, level_of, put_level, put_answer, may_raise, raise_of, raise_answer, levels_after, raised_card}
 use Rattle.register.specs.Meaning.{Meaning, Held, Keeps, card_or, granted}
 use Rattle.raised.specs.Runs.{levels_after_all, granted_of, later, last_for, RaisesHold}
-use Rattle.register.proofs.CardRows.{some_same, none_some}
-use Rattle.register.proofs.KeptParts.{kept_parts, parts_kept}
+use Rattle.register.specs.RowKeeps.{some_same, none_some}
+use Rattle.raised.specs.RaisedKeeps.{level_kept}
 use Rattle.raised.proofs.LevelLists.{level_put}
-
-level_price : (xs : List RaisedLevel) → all_held has_price xs ≡ true → (n : ℕ) (l : ℤ) → level_of xs n ≡ Some l → is_price l ≡ true
-level_price [] h n l e = absurd (none_some l e)
-level_price (x ∷ xs) h n l e =
-    let p = and_parts (has_price x) (all_held has_price xs) h in
-    elim (cases_Bool (eqb x.resource n)) [
-      | inl s ↦ subst (λ z. is_price z ≡ true) (some_same (sym (cond-true (eqb x.resource n) _ _ s) ∙ e)) p.0
-      | inr s ↦ level_price xs p.1 n l (sym (cond-false (eqb x.resource n) _ _ s) ∙ e)
-    ]
-
--- what a card keeps besides its level
-pub level_kept : (c : Card) → card_kept c ≡ true → is_price c.level ≡ true
-level_kept c h = (kept_parts c h).level
-
-with_level_kept : (c : Card) (l : ℤ) → card_kept c ≡ true → is_price l ≡ true → card_kept (with_level c l) ≡ true
-with_level_kept c l h price =
-    let p = kept_parts c h in
-    parts_kept (with_level c l) (record {
-      owner = p.owner;
-      least = p.least;
-      most = p.most;
-      up = p.up;
-      down = p.down;
-      spinning = p.spinning;
-      non_spinning = p.non_spinning;
-      limit = p.limit;
-      level = price;
-      few_pairs = p.few_pairs;
-      few_rows = p.few_rows;
-      pairs = p.pairs;
-      rows = p.rows;
-    })
-
-higher_price : (a b : ℤ) → is_price a ≡ true → is_price b ≡ true → is_price (higher a b) ≡ true
-higher_price a b p q = elim (cases_Bool (lt_z a b)) [
-  | inl h ↦ ap is_price (cond-true (lt_z a b) b a h) ∙ q
-  | inr h ↦ ap is_price (cond-false (lt_z a b) b a h) ∙ p
-]
-
-raised_held : (n : ℕ) (lv : Option ℤ) (o : Option Card) → ((l : ℤ) → lv ≡ Some l → is_price l ≡ true) → ((c : Card) → o ≡ Some c → Held n c) → (c : Card) → raised_card lv o ≡ Some c → Held n c
-raised_held n None o price held c e = held c e
-raised_held n (Some l) None price held c e = absurd (none_some c e)
-raised_held n (Some l) (Some b) price held c e =
-    let h = held b refl in
-    let z : ℤ = higher b.level l in
-    subst (Held n) (some_same e) (record {
-      number = h.number;
-      card = with_level_kept b z h.card (higher_price b.level l (level_kept b h.card) (price l refl));
-      tidy = ap (λ x. with_level x z) h.tidy;
-    })
-
--- levels that are prices leave a register's meaning kept
-pub raised_keeps : (m : Meaning) (xs : List RaisedLevel) → Keeps m → all_held has_price xs ≡ true → Keeps (raised_meaning m xs)
-raised_keeps m xs k h = record { day = k.day; cards = λ n c e. raised_held n (level_of xs n) (m.cards n) (level_price xs h n) (k.cards n) c e }
-
--- what looking up gives, by what is held below and above
-pub look_none : (lv : Option ℤ) (o : Option Card) (before : Card) → is_some o ≡ false → (false ≡ is_some (raised_card lv o)) × (card_or before o ≡ card_or before (raised_card lv o))
-look_none None o before h = (sym h, refl)
-look_none (Some l) None before h = (refl, refl)
-look_none (Some l) (Some c) before h = absurd (both_ways true h refl)
-
-pub look_higher : (l : ℤ) (o : Option Card) (before : Card) → is_some o ≡ true → lt_z (card_or before o).level l ≡ true
-    → (true ≡ is_some (raised_card (Some l) o)) × (with_level (card_or before o) l ≡ card_or before (raised_card (Some l) o))
-look_higher l None before h t = absurd (both_ways false refl h)
-look_higher l (Some c) before h t = (refl, ap (with_level c) (sym (cond-true (lt_z c.level l) l c.level t)))
-
-pub look_lower : (l : ℤ) (o : Option Card) (before : Card) → is_some o ≡ true → lt_z (card_or before o).level l ≡ false
-    → (true ≡ is_some (raised_card (Some l) o)) × (card_or before o ≡ card_or before (raised_card (Some l) o))
-look_lower l None before h t = absurd (both_ways false refl h)
-look_lower l (Some c) before h t = (refl, ap (with_level c) (sym (cond-false (lt_z c.level l) l c.level t)))
 
 module _ (m : Meaning) where
   -- a raise that is granted is of a held resource, and may be asked for
@@ -194,26 +121,13 @@ module _ (m : Meaning) (xs : List RaisedLevel) (n : ℕ) (l : ℤ) where
   pub after_answer : (a : Result (Unit {0}) Fault) → raise_answer m xs n l ≡ a → granted a (put_level n l xs) xs ≡ levels_after m xs n l
   after_answer a e = sym (ap (λ r. granted r (put_level n l xs) xs) e)
 
-  pub raise_not_price : is_price l ≡ false → raise_answer m xs n l ≡ Err (Record OutOfRange 0)
-  raise_not_price p = cond-false (is_price l) _ _ p
-
   module _ (price : is_price l ≡ true) (before : Card) where
     of_price : raise_answer m xs n l ≡ raise_of (m.cards n) xs n l
     of_price = cond-true (is_price l) _ _ price
 
-    of_none : (o : Option Card) → is_some o ≡ false → raise_of o xs n l ≡ Err (Register ResourceNotHeld 0)
-    of_none None h = refl
-    of_none (Some c) h = absurd (both_ways true h refl)
-
-    pub raise_not_held : is_some (m.cards n) ≡ false → raise_answer m xs n l ≡ Err (Register ResourceNotHeld 0)
-    raise_not_held h = of_price ∙ of_none (m.cards n) h
-
     of_some : (o : Option Card) → is_some o ≡ true → raise_of o xs n l ≡ cond (may_raise (card_or before o).level l) (put_answer xs n) (Err (Register RaiseNotAllowed 0))
     of_some None h = absurd (both_ways false refl h)
     of_some (Some c) h = refl
-
-    pub raise_not_allowed : is_some (m.cards n) ≡ true → may_raise (card_or before (m.cards n)).level l ≡ false → raise_answer m xs n l ≡ Err (Register RaiseNotAllowed 0)
-    raise_not_allowed h t = of_price ∙ of_some (m.cards n) h ∙ cond-false (may_raise (card_or before (m.cards n)).level l) _ _ t
 
     pub raise_put : is_some (m.cards n) ≡ true → may_raise (card_or before (m.cards n)).level l ≡ true → raise_answer m xs n l ≡ put_answer xs n
     raise_put h t = of_price ∙ of_some (m.cards n) h ∙ cond-true (may_raise (card_or before (m.cards n)).level l) _ _ t
@@ -228,13 +142,6 @@ held_price m n before k h = price_in n before (m.cards n) (k.cards n) h
 not_lower : (a b : ℤ) → lt_z b a ≡ false → le_z a b ≡ true
 not_lower a b h = grind (arith, ints)
 
-lower : (a b : ℤ) → lt_z b a ≡ true → le_z a b ≡ false
-lower a b h = grind (arith, ints)
-
--- below the level, or above its threshold
-pub may_not : (b l : ℤ) → (lt_z l b ≡ true) ⊎ (lt_z (threshold b) l ≡ true) → may_raise b l ≡ false
-may_not b l (inl h) = and_left (le_z b l) (le_z l (threshold b)) (lower b l h)
-may_not b l (inr h) = and_right (le_z b l) (le_z l (threshold b)) (lower l (threshold b) h)
-
+-- from the level up to its threshold
 pub may : (b l : ℤ) → lt_z l b ≡ false → lt_z (threshold b) l ≡ false → may_raise b l ≡ true
 may b l h k = and_from (le_z b l) (le_z l (threshold b)) (not_lower b l h) (not_lower l (threshold b) k)

@@ -1,3 +1,4 @@
 pub mod Levels
 pub mod Tables
 pub mod Runs
+pub mod RaisedKeeps

@@ -4,7 +4,7 @@ ghost use Rattle.wire.specs.Reading.{is_price};
 ghost use Rattle.wire.specs.Rows.{entries};
 ghost use Rattle.raised.specs.Levels.{level_of, put_level, put_answer};
 ghost use Rattle.register.specs.Meaning.{granted};
-ghost use Rattle.raised.specs.Tables.{place_in};
+ghost use Rattle.raised.specs.Tables.{place_of};
 
 use crate::level::RaisedLevel;
 use crate::levels::LevelTable;
@@ -18,43 +18,33 @@ impl LevelTable {
     pub fn new() -> LevelTable
         ensures { entries result.levels ≡ [] }
     {
-        let none = RaisedLevel {
-            resource: 0,
-            level: 0,
-        };
         LevelTable {
             levels: Counted {
                 count: 0,
-                rows: [none; 32],
+                rows: [RaisedLevel::default(); 32],
             },
         }
     }
 
-    // The place of the resource's level, or the first place that is left.
-    fn place_of(&self, resource: u16) -> usize
-        ensures value { result ≡ place_in resource (entries self.now.levels) }
-        ensures within { (result ≤ self.now.levels.count) × (self.now.levels.count ≤ 32) }
+    // The place of the resource's level, if it has one.
+    fn place_of(&self, resource: u16) -> Option<usize>
+        ensures { result ≡ place_of resource (entries self.now.levels) }
     {
-        let count = self.levels.count as usize;
-        let rows = &self.levels.rows[..];
-        for i in 0..count {
-            if rows[i].resource == resource {
-                return i;
-            }
-        }
-        count
+        self.levels
+            .standing()
+            .iter()
+            .position(|held| held.resource == resource)
     }
 
     // The level that is held for a resource.
     pub fn level_of(&self, resource: u16) -> Option<i32>
         ensures { result ≡ level_of (entries self.now.levels) resource }
     {
-        let at = self.place_of(resource);
-        if at == self.levels.count as usize {
-            return None;
-        }
-        let rows = &self.levels.rows[..];
-        Some(rows[at].level)
+        self.levels
+            .standing()
+            .iter()
+            .find(|held| held.resource == resource)
+            .map(|held| held.level)
     }
 
     // Holds the level for the resource, in place of any that is held; a 33rd resource is refused.
@@ -64,13 +54,16 @@ impl LevelTable {
         ensures after { entries self.new.levels ≡ granted (put_answer (entries self.old.levels) resource) (put_level resource level (entries self.old.levels)) (entries self.old.levels) }
     {
         let mut levels = self.levels;
-        let at = self.place_of(resource);
-        if at == PLACES {
-            return Err(Fault::Window(WindowFault::Full, 0));
-        }
-        levels.rows[at] = RaisedLevel { resource, level };
-        if at == levels.count as usize {
-            levels.count += 1;
+        match self.place_of(resource) {
+            Some(at) => levels.rows[at].level = level,
+            None => {
+                let at = levels.count as usize;
+                if at == PLACES {
+                    return Err(Fault::Window(WindowFault::Full, 0));
+                }
+                levels.rows[at] = RaisedLevel { resource, level };
+                levels.count += 1;
+            }
         }
         *self = LevelTable { levels };
         Ok(())

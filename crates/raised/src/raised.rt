@@ -4,6 +4,7 @@ ghost use Rattle.wire.specs.Reading.{is_price};
 ghost use Rattle.wire.specs.Rows.{entries};
 ghost use Rattle.raised.specs.declared.level.RaisedLevel.{RaisedLevel as Raise};
 ghost use Rattle.raised.specs.Levels.{threshold, raise_answer, levels_after, raised_meaning};
+ghost use Rattle.raised.specs.RaisedKeeps.{priced, raised_keeps};
 ghost use Rattle.raised.specs.Runs.{RaisesHold};
 
 use crate::levels::LevelTable;
@@ -61,6 +62,8 @@ impl<R: Register> Raised<R> {
 impl<R: Register> Register for Raised<R> {
     ghost meaning = { λ r. raised_meaning (R.Register.meaning r.below) (entries r.levels.levels) };
 
+    ghost keeps = { λ r. raised_keeps (R.Register.meaning r.below) (entries r.levels.levels) (R.Register.keeps r.below) (priced r.levels.levels r.levels.kept) };
+
     fn day(&self) -> Day {
         self.below.day()
     }
@@ -71,8 +74,7 @@ impl<R: Register> Register for Raised<R> {
         }
         match self.levels.level_of(resource) {
             Some(level) if level > card.level => card.level = level,
-            Some(_) => {}
-            None => {}
+            _ => {}
         }
         true
     }

@@ -1,6 +1,5 @@
 // What each fault answers, and some of them in words.
-use crate::reading::answer;
-use faults::{Fault, RecordFault, RegisterFault, RuleFault, WindowFault};
+use faults::{Answer, Fault, RecordFault, RegisterFault, RuleFault, WindowFault};
 use std::test::Fail;
 
 // A fault; then its number, layer and place.
@@ -70,8 +69,14 @@ static SHOWN: [Shown; 6] = [
 
 #[test]
 fn answers_of_every_fault(rt: HostRuntime) {
-    for Told(fault, number, layer, place) in &TOLD {
-        assert_eq!(rt; fault.answer(), answer(*number, *layer, *place));
+    for told in &TOLD {
+        let Told(fault, number, layer, place) = *told;
+        let expected = Answer {
+            number,
+            layer,
+            place,
+        };
+        assert_eq!(rt; fault.answer(), expected);
     }
 }
 

@@ -1,8 +1,22 @@
 // Records in hexadecimal, and what reading each answers.
 use crate::longest::LONGEST;
+use faults::Answer;
 
 // A record; then number, layer and place, all 0 where it is a bid's.
 pub struct Case(pub &'static str, pub u8, pub u8, pub u32);
+
+impl Case {
+    // What reading the record answers if it refuses.
+    pub fn refusal(&self) -> Option<Answer> {
+        let Case(_, number, layer, place) = *self;
+        let answer = Answer {
+            number,
+            layer,
+            place,
+        };
+        (number != 0).then_some(answer)
+    }
+}
 
 // Resource, hour and map, cut at each length; any resource and any hour.
 static HEAD: [Case; 13] = [
@@ -335,48 +349,16 @@ static SEVERAL: [Case; 11] = [
     Case(LONGEST, 0, 0, 0),
 ];
 
-fn head() -> &'static [Case] {
-    &HEAD
-}
-
-fn map() -> &'static [Case] {
-    &MAP
-}
-
-fn self_schedule() -> &'static [Case] {
-    &SELF_SCHEDULE
-}
-
-fn curve() -> &'static [Case] {
-    &CURVE
-}
-
-fn services() -> &'static [Case] {
-    &SERVICES
-}
-
-fn start_up() -> &'static [Case] {
-    &START_UP
-}
-
-fn ramp() -> &'static [Case] {
-    &RAMP
-}
-
-fn several() -> &'static [Case] {
-    &SEVERAL
-}
-
 // The whole table.
 pub fn tables() -> [&'static [Case]; 8] {
     [
-        head(),
-        map(),
-        self_schedule(),
-        curve(),
-        services(),
-        start_up(),
-        ramp(),
-        several(),
+        &HEAD,
+        &MAP,
+        &SELF_SCHEDULE,
+        &CURVE,
+        &SERVICES,
+        &START_UP,
+        &RAMP,
+        &SEVERAL,
     ]
 }

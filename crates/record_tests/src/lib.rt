@@ -6,7 +6,7 @@ mod answers;
 #[cfg(test)]
 mod cases;
 #[cfg(test)]
-mod hex;
+mod hexadecimal;
 #[cfg(test)]
 mod longest;
 #[cfg(test)]

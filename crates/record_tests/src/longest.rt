@@ -18,7 +18,7 @@ pub const LONGEST: &str = "0007 18 00FF 00989680 \
 pub struct Flaw(pub u32, pub &'static str, pub u8);
 
 // In the order of their places.
-static FLAWS: [Flaw; 53] = [
+pub static FLAWS: [Flaw; 53] = [
     // The map, the self-schedule, the start of the curve and its count.
     Flaw(3, "01FF", 2),
     Flaw(5, "00989681", 4),
@@ -78,7 +78,3 @@ static FLAWS: [Flaw; 53] = [
     Flaw(170, "00989681", 4),
     Flaw(174, "00989681", 4),
 ];
-
-pub fn flaws() -> &'static [Flaw] {
-    &FLAWS
-}

@@ -1,5 +1,6 @@
 // Components to make bids of.
 use bid::{Components, Curve, Ramp, RampPair, Service, Services, StartUp, StartUpPair, Step};
+use std::array::from_fn;
 use wire::Counted;
 
 // Rows that say nothing where they stand behind a count, and are out of range where they count.
@@ -90,18 +91,9 @@ pub fn of_ramp(count: u8, rows: [RampPair; 4]) -> Components {
     }
 }
 
-// One row, and the same behind it in every place.
-pub fn steps(first: Step, behind: Step) -> [Step; 10] {
-    let mut rows = [behind; 10];
-    rows[0] = first;
-    rows
-}
-
-// Rows of one kind, and another as the tenth.
-pub fn ten_steps(front: Step, last: Step) -> [Step; 10] {
-    let mut rows = [front; 10];
-    rows[9] = last;
-    rows
+// So many rows of one kind, and another in every place behind them.
+pub fn steps(many: usize, front: Step, behind: Step) -> [Step; 10] {
+    from_fn(|i| if i < many { front } else { behind })
 }
 
 fn rising_steps() -> [Step; 10] {

@@ -1,19 +1,16 @@
 -- Rows of numbered cards: checked one at a time, kept, and looked up by place. Assumes nothing.
-use Rattle.std.proofs.Common.{◌≡◌, ℕ, zero, suc, ◌+◌, ◌<◌, ◌≤◌, true, false, ◌&&◌, eqb, ltb, leb, ◌⊎◌, List, [], ◌∷◌, length, get_or, Some, None, Ok, Err, Option, sym, refl, ap, ◌∙◌, subst, inl, inr, arith}
-use Rattle.std.proofs.lemmas.Bool.{cases_Bool, cond-true, cond-false, and_parts, and_from, ltb-true, lt-ltb, leb-true, eqb-true, eq-eqb, ne_eqb, cases_eq, cases_lt}
-use Rattle.std.proofs.lemmas.List.{get_or_default}
+use Rattle.std.proofs.Common.{◌≡◌, ℕ, zero, suc, ◌+◌, ◌<◌, ◌≤◌, true, false, eqb, ltb, ltb-true, ltb-false, leb, List, [], ◌∷◌, length, get_or, Some, None, Ok, Err, sym, refl, ap, ◌∙◌, inl, inr, arith}
+use Rattle.std.proofs.lemmas.Bool.{cases_Bool, cond-true, cond-false, and_parts, and_from, lt-ltb, leb-true, eq-eqb, ne_eqb, cases_eq, cases_lt}
+use Rattle.std.specs.List.Sorted.{IsPartitionedBy, IsPartitionPoint}
+use Rattle.std.proofs.lemmas.List.Sorted.{IsPartitionedBy-ltb}
 use Rattle.wire.specs.Rows.{all_held}
 use Rattle.wire.specs.Steps.{ok_not_err}
-use Rattle.register.specs.declared.data.Card.{Card}
 use Rattle.register.specs.declared.data.Day.{Day}
 use Rattle.register.specs.declared.data.NumberedCard.{NumberedCard}
 use Rattle.register.specs.Cards.{tidied, with_rows, blank_card}
-use Rattle.register.specs.CardRow.{number_of, numbered_kept, may_stand, row_kept, cards_checked, breach_at, card_in, row_meaning}
-use Rattle.register.specs.Kept.{day_kept, card_kept, rises_from, rises}
-use Rattle.register.specs.Meaning.{Held, Keeps}
-use Rattle.register.specs.Rows.{NotLower}
+use Rattle.register.specs.CardRow.{number_of, numbered_kept, may_stand, row_kept, cards_checked, breach_at, card_in}
+use Rattle.register.specs.Kept.{day_kept, rises_from, rises}
 use Rattle.register.proofs.Rising.{in_order}
-use Rattle.register.proofs.Packing.{tidied-tidied, tidied_kept}
 
 -- what no row holds: only the place where a list ends reads so
 abbrev pub no_card : NumberedCard
@@ -52,42 +49,6 @@ checked_kept p (x ∷ xs) h =
 pub row_kept_lem : (d : Day) (xs : List NumberedCard) → day_kept d ≡ true → cards_checked 1 0 xs ≡ Ok tt → row_kept d xs ≡ true
 row_kept_lem d xs h k = let q = checked_kept 1 xs k in and_from _ _ (and_from _ _ h q.0) q.1
 
-pub some_same : {X : Type 0} {x y : X} → ◌≡◌ {A = Option X} (Some x) (Some y) → x ≡ y
-some_same e = cc
-
-pub none_some : {X : Type 0} (x : X) → ◌≡◌ {A = Option X} None (Some x) → ⊥
-none_some x e = let z : ◌≡◌ {A = ℕ} 0 1 = cc in omega arith
-
-held_in : (xs : List NumberedCard) → all_held numbered_kept xs ≡ true → (n : ℕ) (c : Card) → card_in xs n ≡ Some c → Held n c
-held_in [] h n c e = absurd (none_some c e)
-held_in (x ∷ xs) h n c e =
-    let q = and_parts (numbered_kept x) (all_held numbered_kept xs) h in
-    elim (cases_Bool (eqb x.resource n)) [
-      | inl same ↦ (
-          let is : tidied x.card ≡ c = some_same (sym (cond-true (eqb x.resource n) _ _ same) ∙ e) in
-          let k = and_parts (ltb x.resource 65536) (card_kept x.card) q.0 in
-          subst (Held n) is (record {
-            number = omega (arith, ltb-true x.resource 65536 k.0, eqb-true x.resource n same);
-            card = tidied_kept x.card k.1;
-            tidy = tidied-tidied x.card;
-          }))
-      | inr other ↦ held_in xs q.1 n c (sym (cond-false (eqb x.resource n) _ _ other) ∙ e)
-    ]
-
-module _ (d : Day) (xs : List NumberedCard) (kept : row_kept d xs ≡ true) where
-  parts₁ : (day_kept d && all_held numbered_kept xs ≡ true) × (rises number_of xs ≡ true)
-  parts₁ = and_parts (day_kept d && all_held numbered_kept xs) (rises number_of xs) kept
-
-  parts₂ : (day_kept d ≡ true) × (all_held numbered_kept xs ≡ true)
-  parts₂ = and_parts (day_kept d) (all_held numbered_kept xs) parts₁.0
-
-  pub row_rises : rises number_of xs ≡ true
-  row_rises = parts₁.1
-
-  -- a row that is kept means what a register may mean
-  pub row_keeps : Keeps (row_meaning d xs)
-  row_keeps = record { day = parts₂.0; cards = held_in xs parts₂.1 }
-
 -- no place has the number
 pub none_in : (e : NumberedCard) (xs : List NumberedCard) (n : ℕ) → ((j : ℕ) → j < length xs → number_of (get_or xs j e) ≡ n → ⊥) → card_in xs n ≡ None
 none_in e [] n h = refl
@@ -101,37 +62,34 @@ found_in e (x ∷ xs) n zero l is h = cond-true (eqb x.resource n) _ _ (eq-eqb x
 found_in e (x ∷ xs) n (suc k) l is h =
     cond-false (eqb x.resource n) _ _ (ne_eqb x.resource n (h 0 (omega arith))) ∙ found_in e xs n k (omega arith) is (λ j m. h (suc j) (omega arith))
 
-module _ (xs : List NumberedCard) (up : rises number_of xs ≡ true) (m n : ℕ) (inside : m < length xs) where
-  at_least : (k : ℕ) (d : NumberedCard) → m ≤ k → k < length xs → number_of (get_or xs m no_card) ≤ number_of (get_or xs k d)
-  at_least k d above within = elim (cases_lt m k) [
-    | inl lt ↦ omega (arith, in_order number_of d xs up m k lt within, ap number_of (get_or_default xs m d no_card inside))
-    | inr le ↦ (let same : m ≡ k = omega arith in omega (arith, ap (λ i. number_of (get_or xs i d)) same, ap number_of (get_or_default xs m d no_card inside)))
-  ]
+-- a search for a number ends behind those that are lower
+abbrev pub Lower : List NumberedCard → ℕ → ℕ → Type 0
+Lower xs n place = IsPartitionPoint (λ x. ltb (number_of x) n ≡ true) (λ x. ltb (number_of x) n ≡ false) xs place
 
-  at_most : (k : ℕ) (d : NumberedCard) → k ≤ m → number_of (get_or xs k d) ≤ number_of (get_or xs m no_card)
-  at_most k d below = elim (cases_lt k m) [
-    | inl lt ↦ omega (arith, in_order number_of d xs up k m lt inside, ap number_of (get_or_default xs m d no_card inside))
-    | inr le ↦ (let same : m ≡ k = omega arith in omega (arith, ap (λ i. number_of (get_or xs i d)) same, ap number_of (get_or_default xs m d no_card inside)))
-  ]
-
-  -- what is lower at a place is lower up to it
-  pub lower_up_to : number_of (get_or xs m no_card) < n → (k : ℕ) (d : NumberedCard) → k < m + 1 → number_of (get_or xs k d) < n
-  lower_up_to h k d l = omega (arith, at_most k d (omega arith))
-
-  -- what is not lower at a place is not lower from there on
-  pub not_lower_from : n ≤ number_of (get_or xs m no_card) → (k : ℕ) (d : NumberedCard) → m ≤ k → k < length xs → n ≤ number_of (get_or xs k d)
-  not_lower_from h k d l within = omega (arith, at_least k d l within)
-
--- the place that is not lower has another number, or is past the end: the number is not held
-pub not_found : (xs : List NumberedCard) → rises number_of xs ≡ true → (n place : ℕ) → NotLower xs n place → (place ≡ length xs) ⊎ (number_of (get_or xs place no_card) ≡ n → ⊥) → card_in xs n ≡ None
-not_found xs up n place at (inl end) = none_in no_card xs n (λ j l is. omega (arith, at.lower j no_card (omega arith)))
-not_found xs up n place at (inr other) = none_in no_card xs n (λ j l is. elim (cases_lt j place) [
-  | inl before ↦ omega (arith, at.lower j no_card before)
-  | inr from ↦ elim (cases_eq place j) [
-    | inl same ↦ other (ap (λ i. number_of (get_or xs i no_card)) same ∙ is)
-    | inr differ ↦ (let lt : place < j = omega arith in omega (arith, in_order number_of no_card xs up place j lt l, at.others place no_card (omega arith) (omega arith)))
-  ]
+pub lower_numbers : (xs : List NumberedCard) → rises number_of xs ≡ true → (n : ℕ) → IsPartitionedBy (λ x. ltb (number_of x) n) xs
+lower_numbers xs up n = IsPartitionedBy-ltb number_of xs n (λ i j d le within. elim (cases_lt i j) [
+  | inl lt ↦ omega (arith, in_order number_of d xs up i j lt within)
+  | inr not ↦ (let same : i ≡ j = omega arith in omega (arith, ap (λ k. number_of (get_or xs k d)) same))
 ])
 
-pub is_found : (xs : List NumberedCard) (n place : ℕ) → NotLower xs n place → place < length xs → number_of (get_or xs place no_card) ≡ n → card_in xs n ≡ Some (tidied (get_or xs place no_card).card)
-is_found xs n place at inside is = found_in no_card xs n place inside is (λ j l same. omega (arith, at.lower j no_card l))
+-- what stands there has the number, or another one, or nothing stands there
+module _ (xs : List NumberedCard) (up : rises number_of xs ≡ true) (n place : ℕ) (at : Lower xs n place) where
+  below : (j : ℕ) → j < place → number_of (get_or xs j no_card) ≡ n → ⊥
+  below j lt is = omega (arith, ltb-true (number_of (get_or xs j no_card)) n (at.0 j no_card (omega arith) lt))
+
+  pub is_found : (x : NumberedCard) → place < length xs → x ≡ get_or xs place no_card → number_of x ≡ n → card_in xs n ≡ Some (tidied x.card)
+  is_found x inside here is = found_in no_card xs n place inside (sym (ap number_of here) ∙ is) below ∙ ap (λ y. Some (tidied y.card)) (sym here)
+
+  pub not_found : (x : NumberedCard) → place < length xs → x ≡ get_or xs place no_card → (number_of x ≡ n → ⊥) → card_in xs n ≡ None
+  not_found x inside here other = none_in no_card xs n (λ j l is. elim (cases_lt j place) [
+    | inl before ↦ below j before is
+    | inr from ↦ elim (cases_eq place j) [
+      | inl same ↦ other (ap number_of here ∙ ap (λ i. number_of (get_or xs i no_card)) same ∙ is)
+      | inr differ ↦ (
+          let lt : place < j = omega arith in
+          omega (arith, in_order number_of no_card xs up place j lt l, ltb-false (number_of (get_or xs place no_card)) n (at.1 place no_card (omega arith) inside)))
+    ]
+  ])
+
+  pub past_end : length xs ≤ place → card_in xs n ≡ None
+  past_end end = none_in no_card xs n (λ j l is. below j (omega arith) is)

@@ -57,6 +57,13 @@ limit_kept c = nat_le c.regulation_limit c.pmax
 abbrev pub is_limit : StartUpLimit → Bool
 is_limit p = nat_lt p.down_time 65536 && nat_lt p.highest 4294967296
 
+-- a pair that fits and may stand first, or behind another
+abbrev pub may_be_first : StartUpLimit → Bool
+may_be_first p = is_limit p && p.down_time == 0
+
+abbrev pub may_follow : StartUpLimit → StartUpLimit → Bool
+may_follow b p = is_limit p && nat_lt b.down_time p.down_time && nat_lt b.highest p.highest
+
 -- the first down time is 0; down times and highest costs rise strictly
 abbrev pub start_up_kept : List StartUpLimit → Bool
 start_up_kept ps = all_held is_limit ps && first_is (λ p. p.down_time) 0 ps && rises (λ p. p.down_time) ps && rises (λ p. p.highest) ps

@@ -5,3 +5,6 @@ pub mod Meaning
 pub mod CardRow
 pub mod Rows
 pub mod LimitFields
+pub mod KeptParts
+pub mod Tidied
+pub mod RowKeeps

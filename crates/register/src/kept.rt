@@ -1,20 +1,14 @@
 // The tests of what a day and a card keep.
 ghost use Rattle.std.specs.Prelude.{◌≡◌, ◌≤◌};
 ghost use Rattle.register.specs.Cards.{blank_card};
-ghost use Rattle.register.specs.Kept.{day_prices, is_day_length, caps_in_order, day_kept, numbers_kept, start_up_kept, is_row, ramp_kept, regulation_kept, card_kept};
+ghost use Rattle.register.specs.CardRow.{may_stand};
+ghost use Rattle.register.specs.Kept.{day_prices, is_day_length, caps_in_order, day_kept, numbers_kept, may_be_first, may_follow, start_up_kept, is_row, ramp_kept, regulation_kept, card_kept};
 ghost use Rattle.wire.specs.Reading.{is_price};
 ghost use Rattle.wire.specs.Rows.{entries};
 
-use crate::data::{Card, Day, RampLimits, Regulation, StartUpLimit};
+use crate::data::{Card, Day, NumberedCard, RampLimits, Regulation, StartUpLimit};
 use wire::Counted;
-use wire::reading::{MAX_PRICE, MAX_QUANTITY, MIN_PRICE};
-
-// Whether the cents a MWh are a price.
-pub fn is_price(value: i32) -> bool
-    ensures { result ≡ is_price value }
-{
-    MIN_PRICE <= value && value <= MAX_PRICE
-}
+use wire::reader::{MAX_QUANTITY, is_price};
 
 impl Day {
     fn prices_keep(&self) -> bool
@@ -39,7 +33,7 @@ impl Day {
     pub fn keeps(&self) -> bool
         ensures { result ≡ day_kept self.now }
     {
-        self.prices_keep() && 23 <= self.hours && self.hours <= 25 && self.caps_in_order()
+        self.prices_keep() && (23..=25).contains(&self.hours) && self.caps_in_order()
     }
 }
 
@@ -51,42 +45,47 @@ impl Regulation {
     }
 }
 
+impl StartUpLimit {
+    // Whether a pair may stand before all others: from no time down on.
+    fn may_be_first(self) -> bool
+        ensures { result ≡ may_be_first self }
+    {
+        self.down_time == 0
+    }
+
+    // Whether a pair may stand behind another: after a longer time down, at a higher cost.
+    fn may_follow(self, before: StartUpLimit) -> bool
+        ensures { result ≡ may_follow before self }
+    {
+        before.down_time < self.down_time && before.highest < self.highest
+    }
+}
+
+impl RampLimits {
+    fn keeps(&self, pmax: u32) -> bool
+        ensures { result ≡ is_row pmax self.now }
+    {
+        self.level <= pmax && self.lowest <= self.highest && self.highest <= MAX_QUANTITY
+    }
+}
+
 impl Card {
     // A card of zeros, with no pairs and no rows.
     pub fn blank() -> Card
         ensures { result ≡ blank_card }
     {
-        let regulation = Regulation {
-            certified: 0,
-            award: 0,
-        };
-        let pair = StartUpLimit {
-            down_time: 0,
-            highest: 0,
-        };
-        let row = RampLimits {
-            level: 0,
-            lowest: 0,
-            highest: 0,
-        };
         Card {
             owner: 0,
             pmin: 0,
             pmax: 0,
-            up: regulation,
-            down: regulation,
+            up: Regulation::default(),
+            down: Regulation::default(),
             spinning: 0,
             non_spinning: 0,
             regulation_limit: 0,
             level: 0,
-            start_up: Counted {
-                count: 0,
-                rows: [pair; 3],
-            },
-            ramp: Counted {
-                count: 0,
-                rows: [row; 4],
-            },
+            start_up: Counted::of(&[]),
+            ramp: Counted::of(&[]),
         }
     }
 
@@ -104,62 +103,40 @@ impl Card {
             && is_price(self.level)
     }
 
+    fn start_up_keeps(&self) -> bool
+        ensures { result ≡ start_up_kept (entries self.now.start_up) }
+    {
+        let pairs = self.start_up.standing();
+        pairs.first().is_none_or(|first| first.may_be_first())
+            && pairs.is_sorted_by(|before, pair| pair.may_follow(*before))
+    }
+
+    fn ramp_keeps(&self) -> bool
+        ensures { result ≡ ramp_kept self.now.pmin self.now.pmax (entries self.now.ramp) }
+    {
+        let rows = self.ramp.standing();
+        rows.first()
+            .is_none_or(|first| first.level == self.pmin && first.keeps(self.pmax))
+            && rows.is_sorted_by(|before, row| before.level < row.level && row.keeps(self.pmax))
+    }
+
     // Whether the card has what every card keeps; what stands past its counts says nothing.
     pub fn keeps(&self) -> bool
         ensures { result ≡ card_kept self.now }
     {
-        if !self.numbers_keep() || self.start_up.count > 3 || self.ramp.count > 4 {
-            return false;
-        }
-        let pairs = &self.start_up.rows[..];
-        let rows = &self.ramp.rows[..];
-        start_up_keeps(&pairs[0..self.start_up.count as usize])
-            && ramp_keeps(self.pmin, self.pmax, &rows[0..self.ramp.count as usize])
+        self.numbers_keep()
+            && self.start_up.count <= 3
+            && self.ramp.count <= 4
+            && self.start_up_keeps()
+            && self.ramp_keeps()
     }
 }
 
-fn start_up_keeps(pairs: &[StartUpLimit]) -> bool
-    ensures { result ≡ start_up_kept pairs.now }
-{
-    if pairs.len() == 0 {
-        return true;
+impl NumberedCard {
+    // Whether the card may stand where numbers are at least `least`: it keeps what cards keep, and its number is not lower.
+    pub fn may_stand(&self, least: u32) -> bool
+        ensures { result ≡ may_stand least self.now }
+    {
+        least <= self.resource as u32 && self.card.keeps()
     }
-    let mut before = pairs[0];
-    if before.down_time != 0 {
-        return false;
-    }
-    for i in 1..pairs.len() {
-        let pair = pairs[i];
-        if pair.down_time <= before.down_time || pair.highest <= before.highest {
-            return false;
-        }
-        before = pair;
-    }
-    true
-}
-
-fn row_keeps(pmax: u32, row: &RampLimits) -> bool
-    ensures { result ≡ is_row pmax row.now }
-{
-    row.level <= pmax && row.lowest <= row.highest && row.highest <= MAX_QUANTITY
-}
-
-fn ramp_keeps(pmin: u32, pmax: u32, rows: &[RampLimits]) -> bool
-    ensures { result ≡ ramp_kept pmin pmax rows.now }
-{
-    if rows.len() == 0 {
-        return true;
-    }
-    let mut before = rows[0];
-    if before.level != pmin || !row_keeps(pmax, &before) {
-        return false;
-    }
-    for i in 1..rows.len() {
-        let row = rows[i];
-        if row.level <= before.level || !row_keeps(pmax, &row) {
-            return false;
-        }
-        before = row;
-    }
-    true
 }

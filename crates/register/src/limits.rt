@@ -1,5 +1,6 @@
 // Start-up pairs and ramp rows as fields.
 ghost use Rattle.std.specs.Prelude.{refl};
+ghost use Rattle.std.proofs.Common.{lit≤};
 ghost use Rattle.register.specs.Cards.{blank_limit, blank_limits};
 ghost use Rattle.register.specs.Kept.{is_limit};
 ghost use Rattle.register.specs.Limits.{limit_at, limit_bytes, limit_put, is_blank_limit, limits_at, limits_bytes, limits_put, limits_held, is_blank_limits};
@@ -7,9 +8,7 @@ ghost use Rattle.register.specs.LimitFields.{limit_lawful, limit_puts, limit_bla
 
 use crate::data::{RampLimits, StartUpLimit};
 use faults::Fault;
-use wire::reading::{cost_at, down_time_at, quantity_at, rate_at};
-use wire::writing::{put_long, put_word};
-use wire::{Field, Row};
+use wire::{Field, Reader, Row, Writer};
 
 impl Field for StartUpLimit {
     ghost parsed = { limit_at };
@@ -26,15 +25,20 @@ impl Field for StartUpLimit {
 
     ghost puts = { λ v. limit_puts v };
 
-    fn read(bytes: &[u8], at: usize) -> Result<(StartUpLimit, usize), Fault> {
-        let (down_time, next) = down_time_at(bytes, at)?;
-        let (highest, next) = cost_at(bytes, next)?;
-        Ok((StartUpLimit { down_time, highest }, next))
+    fn read(reader: &mut Reader) -> Result<StartUpLimit, Fault> {
+        Ok(StartUpLimit {
+            down_time: reader.down_time()?,
+            highest: reader.cost()?,
+        })
     }
 
-    fn write(&self, out: &mut [u8], at: usize) -> Result<usize, Fault> {
-        let next = put_word(self.down_time, out, at)?;
-        put_long(self.highest, out, next)
+    fn write(&self, writer: &mut Writer) -> Result<(), Fault> {
+        writer.word(self.down_time)?;
+        writer.long(self.highest)
+    }
+
+    fn length(&self) -> usize {
+        StartUpLimit::WIDTH as usize
     }
 }
 
@@ -43,15 +47,20 @@ impl Row for StartUpLimit {
 
     ghost is_blank = { is_blank_limit };
 
+    ghost WIDTH = { 6 };
+
+    const WIDTH: u8 = 6;
+
     ghost blanks = { limit_blank };
 
     ghost blanked = { refl };
 
+    ghost wide = { λ v. refl };
+
+    ghost narrow = { lit≤ tt };
+
     fn blank() -> StartUpLimit {
-        StartUpLimit {
-            down_time: 0,
-            highest: 0,
-        }
+        StartUpLimit::default()
     }
 }
 
@@ -70,24 +79,22 @@ impl Field for RampLimits {
 
     ghost puts = { λ v. limits_puts v };
 
-    fn read(bytes: &[u8], at: usize) -> Result<(RampLimits, usize), Fault> {
-        let (level, next) = quantity_at(bytes, at)?;
-        let (lowest, next) = rate_at(bytes, next)?;
-        let (highest, next) = rate_at(bytes, next)?;
-        Ok((
-            RampLimits {
-                level,
-                lowest,
-                highest,
-            },
-            next,
-        ))
+    fn read(reader: &mut Reader) -> Result<RampLimits, Fault> {
+        Ok(RampLimits {
+            level: reader.quantity()?,
+            lowest: reader.rate()?,
+            highest: reader.rate()?,
+        })
     }
 
-    fn write(&self, out: &mut [u8], at: usize) -> Result<usize, Fault> {
-        let next = put_long(self.level, out, at)?;
-        let next = put_long(self.lowest, out, next)?;
-        put_long(self.highest, out, next)
+    fn write(&self, writer: &mut Writer) -> Result<(), Fault> {
+        writer.long(self.level)?;
+        writer.long(self.lowest)?;
+        writer.long(self.highest)
+    }
+
+    fn length(&self) -> usize {
+        RampLimits::WIDTH as usize
     }
 }
 
@@ -96,15 +103,19 @@ impl Row for RampLimits {
 
     ghost is_blank = { is_blank_limits };
 
+    ghost WIDTH = { 12 };
+
+    const WIDTH: u8 = 12;
+
     ghost blanks = { limits_blank };
 
     ghost blanked = { refl };
 
+    ghost wide = { λ v. refl };
+
+    ghost narrow = { lit≤ tt };
+
     fn blank() -> RampLimits {
-        RampLimits {
-            level: 0,
-            lowest: 0,
-            highest: 0,
-        }
+        RampLimits::default()
     }
 }

@@ -1,9 +1,9 @@
 // Cards in memory as a register.
-ghost use Rattle.std.specs.Prelude.{◌≡◌, ℕ, ◌<◌, ◌≤◌, true, false, [], length};
-ghost use Rattle.register.specs.Kept.{rises};
+ghost use Rattle.std.specs.Prelude.{◌≡◌, [], IfOk};
 ghost use Rattle.register.specs.Meaning.{granted};
-ghost use Rattle.register.specs.CardRow.{number_of, row_checked, cards_checked, row_meaning};
-ghost use Rattle.register.specs.Rows.{NotLower, closed_day, row_parts, row_opened};
+ghost use Rattle.register.specs.CardRow.{row_checked, cards_checked, row_meaning};
+ghost use Rattle.register.specs.RowKeeps.{row_keeps};
+ghost use Rattle.register.specs.Rows.{closed_day, row_parts, row_told, row_made, row_opened};
 
 use crate::data::{Card, Day, NumberedCard};
 use crate::register::Register;
@@ -13,33 +13,14 @@ use faults::{Fault, RegisterFault};
 fn check_cards(cards: &[NumberedCard]) -> Result<(), Fault>
     ensures { result ≡ cards_checked 1 0 cards.now }
 {
-    let mut least: u32 = 0;
-    for i in 0..cards.len() {
-        let resource = cards[i].resource as u32;
-        if resource < least || !cards[i].card.keeps() {
+    let mut least = 0;
+    for (i, numbered) in cards.iter().enumerate() {
+        if !numbered.may_stand(least) {
             return Err(Fault::Register(RegisterFault::Breach, i as u32 + 1));
         }
-        least = resource + 1;
+        least = numbered.resource as u32 + 1;
     }
     Ok(())
-}
-
-// The first place whose number is not lower, or the row's length.
-fn first_not_lower(cards: &[NumberedCard], resource: u16) -> usize
-    requires { rises number_of cards.now ≡ true }
-    ensures { NotLower cards.now resource result }
-{
-    let mut low = 0;
-    let mut high = cards.len();
-    while low < high {
-        let middle = low + (high - low) / 2;
-        if cards[middle].resource < resource {
-            low = middle + 1;
-        } else {
-            high = middle;
-        }
-    }
-    low
 }
 
 impl<'a> CardRow<'a> {
@@ -50,13 +31,22 @@ impl<'a> CardRow<'a> {
         CardRow {
             day: Day {
                 hours: 24,
-                floor: 0,
-                soft_cap: 0,
-                hard_cap: 0,
-                service_cap: 0,
+                ..Day::default()
             },
             cards: &[],
         }
+    }
+
+    // The register of a day and cards, unless the day or a card is refused.
+    pub fn new(day: Day, cards: &'a [NumberedCard]) -> Result<CardRow<'a>, Fault>
+        ensures value { row_told result ≡ row_made day cards.now }
+        ensures means { IfOk result (λ r. row_meaning r.day r.cards.now ≡ row_meaning day cards.now) }
+    {
+        if !day.keeps() {
+            return Err(Fault::Register(RegisterFault::Breach, 0));
+        }
+        check_cards(cards)?;
+        Ok(CardRow { day, cards })
     }
 
     // Takes the day and the cards given, unless the day or a card is refused.
@@ -65,11 +55,7 @@ impl<'a> CardRow<'a> {
         ensures parts { row_parts self.new ≡ row_opened (row_parts self.old) day cards.now }
         ensures means { row_meaning self.new.day self.new.cards.now ≡ granted (row_checked day cards.now) (row_meaning day cards.now) (row_meaning self.old.day self.old.cards.now) }
     {
-        if !day.keeps() {
-            return Err(Fault::Register(RegisterFault::Breach, 0));
-        }
-        check_cards(cards)?;
-        *self = CardRow { day, cards };
+        *self = CardRow::new(day, cards)?;
         Ok(())
     }
 }
@@ -77,16 +63,20 @@ impl<'a> CardRow<'a> {
 impl<'a> Register for CardRow<'a> {
     ghost meaning = { λ r. row_meaning r.day r.cards.now };
 
+    ghost keeps = { λ r. row_keeps r.day r.cards.now r.kept };
+
     fn day(&self) -> Day {
         self.day
     }
 
     fn look(&self, resource: u16, card: &mut Card) -> bool {
-        let at = first_not_lower(self.cards, resource);
-        if at == self.cards.len() || self.cards[at].resource != resource {
-            return false;
+        let at = self.cards.partition_point(|held| held.resource < resource);
+        match self.cards.get(at) {
+            Some(held) if held.resource == resource => {
+                *card = held.card.tidied();
+                true
+            }
+            _ => false,
         }
-        *card = self.cards[at].card.tidied();
-        true
     }
 }

@@ -1,20 +1,16 @@
 -- The cards of a file, one at a time. Assumes nothing.
-use Rattle.std.proofs.Common.{◌≡◌, ℕ, suc, ◌+◌, ◌-◌, ◌<◌, Bool, true, false, cond, leb, List, length, Ok, Err, Result, sym, refl, ap, ◌∙◌, arith}
+use Rattle.std.proofs.Common.{◌≡◌, ℕ, suc, ◌+◌, ◌-◌, ◌<◌, true, false, List, Ok, Err, refl, ap, ◌∙◌, arith}
 use Rattle.std.proofs.lemmas.Bool.{cond-true, cond-false}
 use Rattle.faults.specs.declared.Fault.{Fault}
-use Rattle.faults.specs.declared.RecordFault.TheVariants.{BytesLeftOver}
-use Rattle.wire.specs.Reading.{Read, and_then, fault_at, word_at}
-use Rattle.wire.specs.Steps.{then_is, ok_not_err, ok_same, err_same}
+use Rattle.wire.specs.Reading.{Read, and_then, word_at}
+use Rattle.wire.specs.Steps.{then_is, ok_not_err, err_same}
 use Rattle.register.specs.declared.data.Day.{Day}
 use Rattle.register_file.specs.declared.standing.Standing.{Standing}
 use Rattle.register.specs.CardRow.{may_stand, breach_at}
 use Rattle.register_file.specs.Fields.{day_at, standing_at}
-use Rattle.register_file.specs.File.{Contents, before, cards_at, ending_at, file_at, answer_only, end_of}
+use Rattle.register_file.specs.File.{before, cards_at, ending_at, file_at, answer_only, end_of}
 use Rattle.register.specs.Kept.{day_kept}
-
--- a card, and then so many more
-unfoldable pub card_then : ℕ → ℕ → ℕ → List ℕ → Standing → ℕ → Read (List Standing)
-card_then k place least bytes x next = cond (may_stand least x.numbered) (and_then (cards_at k (place + 1) (x.numbered.resource + 1) bytes next) (before x)) (Err (breach_at place))
+use Rattle.register_file.specs.FileKeeps.{card_then, after_count, after_day}
 
 end_before_lem : (r : Read (List Standing)) (x : Standing) → end_of (and_then r (before x)) ≡ end_of r
 end_before_lem (Ok y) x = refl
@@ -37,28 +33,9 @@ module _ (count i : ℕ) (lt : i < count) (place least : ℕ) (bytes : List ℕ)
   pub cards_fail : (f : Fault) → standing_at bytes at ≡ Err f → end_of (cards_at (count - i) place least bytes at) ≡ Err f
   cards_fail f e = ap end_of (opened ∙ ap (λ r. and_then r (card_then (count - (i + 1)) place least bytes)) e)
 
-pub cards_done : (k place least : ℕ) (bytes : List ℕ) (at : ℕ) → k ≡ 0 → end_of (cards_at k place least bytes at) ≡ Ok at
-cards_done k place least bytes at e = ap (λ j. end_of (cards_at j place least bytes at)) e
-
-answer_cond : {A : Type 0} (b : Bool) (x : A) (f : Fault) → answer_only (cond b (Ok x) (Err f)) ≡ cond b (Ok tt) (Err f)
-answer_cond true x f = refl
-answer_cond false x f = refl
-
--- the end of the cards is the end of the file, or not
-pub ending : (bytes : List ℕ) (d : Day) (r : Read (List Standing)) (end : ℕ) → end_of r ≡ Ok end → answer_only (and_then r (ending_at bytes d)) ≡ cond (leb (length bytes) end) (Ok tt) (Err (fault_at BytesLeftOver end))
-ending bytes d (Err f) end e = absurd (ok_not_err _ _ (sym e))
-ending bytes d (Ok x) end e = ap (λ k. answer_only (ending_at bytes d x.0 k)) (ok_same e) ∙ answer_cond (leb (length bytes) end) _ _
-
 pub ending_fails : (bytes : List ℕ) (d : Day) (r : Read (List Standing)) (f : Fault) → end_of r ≡ Err f → answer_only (and_then r (ending_at bytes d)) ≡ Err f
 ending_fails bytes d (Ok x) f e = absurd (ok_not_err _ _ e)
 ending_fails bytes d (Err g) f e = ap Err (err_same e)
-
--- what follows the day, and what follows the number of cards
-unfoldable pub after_count : List ℕ → Day → ℕ → ℕ → Result Contents Fault
-after_count bytes d count at = and_then (cards_at count 1 0 bytes at) (ending_at bytes d)
-
-unfoldable pub after_day : List ℕ → Day → ℕ → Result Contents Fault
-after_day bytes d at = cond (day_kept d) (and_then (word_at bytes at) (after_count bytes d)) (Err (breach_at 0))
 
 pub file_opens : (bytes : List ℕ) → file_at bytes ≡ and_then (day_at bytes 0) (after_day bytes)
 unfolding after_day after_count

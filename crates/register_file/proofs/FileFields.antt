@@ -9,7 +9,7 @@ use Rattle.wire.specs.Laws.{Lawful}
 use Rattle.wire.specs.Maps.{stands}
 use Rattle.wire.specs.Reading.{is_quantity, is_price, is_map}
 use Rattle.wire.specs.Rows.{counted_bytes, counted_held}
-use Rattle.wire.proofs.CountedRows.{counted_lawful}
+use Rattle.wire.specs.CountedRows.{counted_lawful}
 use Rattle.wire.specs.Lawful.{number_lawful, ranged_lawful, quantity_lawful, price_lawful, map_lawful}
 use Rattle.register.specs.declared.data.Day.{Day}
 use Rattle.register.specs.declared.data.RampLimits.{RampLimits}

@@ -1,56 +1,33 @@
 -- What an accepted file holds, and how a card is found in it. Assumes nothing.
-use Rattle.std.proofs.Common.{◌≡◌, ℕ, zero, suc, ◌+◌, ◌-◌, ◌<◌, ◌≤◌, Bool, true, false, cond, eqb, ltb, leb, List, [], ◌∷◌, length, is_ok, Some, None, Ok, Err, Option, Result, sym, refl, ap, ◌∙◌, subst, inl, inr, arith}
+use Rattle.std.proofs.Common.{◌≡◌, ℕ, zero, suc, ◌+◌, ◌-◌, ◌<◌, ◌≤◌, Bool, true, false, cond, eqb, ltb, leb, List, [], length, is_ok, Some, None, Ok, Err, Option, Result, sym, refl, ap, ◌∙◌, subst, inl, inr, arith}
 use Rattle.std.proofs.lemmas.Bool.{cases_Bool, cond-true, cond-false, and_parts, leb-true, ltb-true, ltb-false, ne_eqb, both_ways, lt-ltb, le-ltb, eq-eqb}
 use Rattle.faults.specs.declared.Fault.{Fault}
 use Rattle.wire.specs.declared.counted.Counted.{Counted}
 use Rattle.wire.specs.Bytes.{Bytes}
 use Rattle.wire.specs.Reading.{Read, word_at}
 use Rattle.wire.specs.Rows.{entries, packed, counted_held}
-use Rattle.wire.proofs.CountedRows.{packed-entries}
+use Rattle.wire.specs.CountedRows.{packed-entries}
 use Rattle.wire.specs.Lawful.{number_lawful}
-use Rattle.wire.specs.Steps.{ok_not_err, ok_same, then_read}
+use Rattle.wire.specs.Steps.{ok_not_err, ok_same, err_same, then_read}
 use Rattle.register.specs.declared.data.Card.{Card}
 use Rattle.register.specs.declared.data.Day.{Day}
 use Rattle.register_file.specs.declared.standing.Standing.{Standing}
 use Rattle.register.specs.Cards.{blank_limit, blank_limits, with_rows, tidied}
-use Rattle.register.specs.CardRow.{numbered_kept, may_stand, cards_checked, row_checked, card_in, row_meaning}
+use Rattle.register.specs.CardRow.{numbered_kept, row_checked, card_in, row_meaning}
 use Rattle.register_file.specs.Fields.{day_at, standing_at}
 use Rattle.register.specs.Limits.{limits_held, is_blank_limit, is_blank_limits}
-use Rattle.register_file.specs.File.{Contents, before, cards_at, ending_at, file_at, cards_of, contents_meaning, file_meaning, answer_only}
+use Rattle.register_file.specs.File.{Contents, cards_at, ending_at, file_at, cards_of, contents_meaning, file_meaning, answer_only}
 use Rattle.register_file.specs.FileLaws.{ReadAsRow}
 use Rattle.register.specs.Kept.{day_kept, is_limit}
-use Rattle.register.specs.Meaning.{Keeps, granted}
+use Rattle.register.specs.Meaning.{granted}
+use Rattle.register.specs.Rows.{made_of}
 use Rattle.register_file.specs.Skipping.{or_zero, after_card, find_at}
-use Rattle.register.proofs.CardRows.{row_kept_lem, row_keeps}
-use Rattle.register_file.proofs.FileCards.{card_then, after_count, after_day}
+use Rattle.register_file.specs.FileKeeps.{after_count, after_day, card_read, cards_checked_lem, contents_in}
 use Rattle.register_file.proofs.FileFields.{StandingHolds, parts_undoes, day_undoes}
 use Rattle.register.specs.LimitFields.{limit_blank, limits_blank}
-use Rattle.register.proofs.Packing.{entries-packed}
+use Rattle.register.specs.Tidied.{entries-packed}
 use Rattle.register_file.proofs.Skipped.{number_read, after_card_lem}
 use Rattle.register_file.proofs.Undoes.{StandsOr}
-
--- a card that was read, and what was read behind it
-pub card_read : (k place least : ℕ) (bytes : List ℕ) (at : ℕ) (ys : List Standing) (end : ℕ) → cards_at (suc k) place least bytes at ≡ Ok (ys, end)
-    → (x : Standing) × (next : ℕ) × (xs : List Standing) × (standing_at bytes at ≡ Ok (x, next)) × (may_stand least x.numbered ≡ true) × (cards_at k (place + 1) (x.numbered.resource + 1) bytes next ≡ Ok (xs, end)) × (ys ≡ x ∷ xs)
-unfolding card_then
-card_read k place least bytes at ys end e =
-    let r = then_read (standing_at bytes at) (card_then k place least bytes) (ys, end) e in
-    let x : Standing = r.0 in
-    elim (cases_Bool (may_stand least x.numbered)) [
-      | inl h ↦ (
-          let s = then_read (cards_at k (place + 1) (x.numbered.resource + 1) bytes r.1) (before x) (ys, end) (sym (cond-true (may_stand least x.numbered) _ _ h) ∙ r.3) in
-          let same = ok_same s.3 in
-          (x, r.1, s.0, r.2, h, s.2 ∙ ap (λ n. Ok (s.0, n)) (ap (λ w. w.1) same), sym (ap (λ w. w.0) same)))
-      | inr h ↦ absurd (ok_not_err _ _ (sym r.3 ∙ cond-false (may_stand least x.numbered) _ _ h))
-    ]
-
--- the cards that were read are those that a row of cards may have
-pub cards_checked_lem : (k place least : ℕ) (bytes : List ℕ) (at : ℕ) (ys : List Standing) (end : ℕ) → cards_at k place least bytes at ≡ Ok (ys, end) → (cards_checked place least (cards_of ys) ≡ Ok tt) × (length ys ≡ k)
-cards_checked_lem zero place least bytes at ys end e = let is : [] ≡ ys = ap (λ w. w.0) (ok_same e) in (ap (λ l. cards_checked place least (cards_of l)) (sym is), ap length (sym is))
-cards_checked_lem (suc k) place least bytes at ys end e =
-    let r = card_read k place least bytes at ys end e in
-    let ih = cards_checked_lem k (place + 1) (r.0.numbered.resource + 1) bytes r.1 r.2 end r.5 in
-    (ap (λ l. cards_checked place least (cards_of l)) r.6 ∙ cond-true (may_stand least r.0.numbered) _ _ r.4 ∙ ih.0, ap length r.6 ∙ ap suc ih.1)
 
 -- no number below the least stands there
 pub none_below : (k place least : ℕ) (bytes : List ℕ) (at : ℕ) (ys : List Standing) (end : ℕ) → cards_at k place least bytes at ≡ Ok (ys, end) → (n : ℕ) → n < least → card_in (cards_of ys) n ≡ None
@@ -145,20 +122,9 @@ accepted bytes all c e =
           ])
     ]
 
-pub contents_in : (r : Result Contents Fault) → is_ok r ≡ true → (c : Contents) × (r ≡ Ok c)
-contents_in (Ok c) h = (c, refl)
-contents_in (Err f) h = absurd (both_ways false refl h)
-
 -- the cards that are read from a file make a row of cards that is accepted
 pub file_row : (bytes : List ℕ) (c : Contents) → Accepted bytes c → row_checked c.day (cards_of c.standing) ≡ Ok tt
 file_row bytes c a = cond-true (day_kept c.day) _ _ a.kept ∙ (cards_checked_lem a.count 1 0 bytes 19 c.standing a.end a.cards).0
-
-pub file_keeps : (bytes : List ℕ) → Bytes bytes → is_ok (file_at bytes) ≡ true → Keeps (file_meaning bytes)
-file_keeps bytes all h =
-    let c = contents_in (file_at bytes) h in
-    let a = accepted bytes all c.0 c.1 in
-    subst (λ r. Keeps (contents_meaning r)) (sym c.1)
-    (row_keeps c.0.day (cards_of c.0.standing) (row_kept_lem c.0.day (cards_of c.0.standing) a.kept (cards_checked_lem a.count 1 0 bytes 19 c.0.standing a.end a.cards).0))
 
 ok_read : {A : Type 0} (r : Read A) → is_ok r ≡ true → (x : A) × (n : ℕ) × (r ≡ Ok (x, n))
 ok_read (Ok y) h = (y.0, y.1, refl)
@@ -190,23 +156,9 @@ module _ (bytes : List ℕ) (all : Bytes bytes) (count i : ℕ) (lt : i < count)
     pub search_past : n < number → find_at n (count - i) bytes at ≡ None
     search_past above = search_opens ∙ cond-false (ltb number n) _ _ (le-ltb number n (omega arith)) ∙ cond-false (eqb number n) _ _ (ne_eqb number n (λ same. omega arith))
 
-pub search_done : (bytes : List ℕ) (n k at : ℕ) → k ≡ 0 → find_at n k bytes at ≡ None
-search_done bytes n k at e = ap (λ j. find_at n j bytes at) e
-
 -- what an accepted file means, by what stands in it
 pub means : (bytes : List ℕ) (c : Contents) → file_at bytes ≡ Ok c → file_meaning bytes ≡ row_meaning c.day (cards_of c.standing)
 means bytes c e = ap contents_meaning e
-
-pub file_day : (bytes : List ℕ) → Bytes bytes → is_ok (file_at bytes) ≡ true → (d : Day) (n : ℕ) → day_at bytes 0 ≡ Ok (d, n) → d ≡ (file_meaning bytes).day
-file_day bytes all h d n e =
-    let c = contents_in (file_at bytes) h in
-    let a = accepted bytes all c.0 c.1 in
-    ap (λ w. w.0) (ok_same (sym e ∙ a.day)) ∙ sym (ap (λ m. m.day) (means bytes c.0 c.1))
-
-pub file_has_day : (bytes : List ℕ) → Bytes bytes → is_ok (file_at bytes) ≡ true → (f : Fault) → day_at bytes 0 ≡ Err f → ⊥
-file_has_day bytes all h f e =
-    let c = contents_in (file_at bytes) h in
-    ok_not_err _ _ (sym (accepted bytes all c.0 c.1).day ∙ e)
 
 module _ (bytes : List ℕ) (all : Bytes bytes) (h : is_ok (file_at bytes) ≡ true) (count : ℕ) (is : count ≡ or_zero (word_at bytes 17)) where
   c₀ : (c : Contents) × (file_at bytes ≡ Ok c)
@@ -253,3 +205,16 @@ granted_old (Err g) new old f e = refl
 -- the cards that are read from a file, and what they mean as a row
 pub read_as_row : (bytes : List ℕ) → Bytes bytes → ReadAsRow bytes
 read_as_row bytes all c e = (file_row bytes c (accepted bytes all c e), means bytes c e)
+
+-- what is accepted makes what was given; what is refused makes its fault
+pub made_new : {A B : Type 0} (r : Result A Fault) (new x : B) → Ok x ≡ made_of (answer_only r) new → (x ≡ new) × (Ok tt ≡ answer_only r)
+made_new (Ok a) new x e = (ok_same e, refl)
+made_new (Err f) new x e = absurd (ok_not_err _ _ e)
+
+pub made_old : {A B : Type 0} (r : Result A Fault) (new : B) (f : Fault) → Err f ≡ made_of (answer_only r) new → Err f ≡ answer_only r
+made_old (Ok a) new f e = absurd (ok_not_err _ _ (sym e))
+made_old (Err g) new f e = ap Err (err_same e)
+
+pub accepted_file : {A : Type 0} (r : Result A Fault) → Ok tt ≡ answer_only r → is_ok r ≡ true
+accepted_file (Ok a) e = refl
+accepted_file (Err f) e = absurd (ok_not_err _ _ e)

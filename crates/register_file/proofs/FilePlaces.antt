@@ -13,11 +13,10 @@ use Rattle.register_file.specs.declared.standing.Standing.{Standing}
 use Rattle.register.specs.CardRow.{may_stand}
 use Rattle.register_file.specs.Fields.{day_at, standing_at}
 use Rattle.register_file.specs.File.{before, cards_at, ending_at, file_at}
+use Rattle.register_file.specs.FileKeeps.{card_then, after_count, after_day, card_read}
 use Rattle.register_file.specs.FileLaws.{FaultPlaced}
 use Rattle.register.specs.Kept.{day_kept}
-use Rattle.register_file.proofs.FileCards.{card_then, after_count, after_day}
 use Rattle.register_file.proofs.FileFields.{parts_undoes, day_undoes}
-use Rattle.register_file.proofs.FileMeaning.{card_read}
 
 -- a byte's place of at most n, or a card's of at most m
 abbrev Within : ℕ → ℕ → Fault → Type 0

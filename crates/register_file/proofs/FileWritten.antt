@@ -8,7 +8,7 @@ use Rattle.wire.specs.Bytes.{Bytes, word_bytes}
 use Rattle.wire.specs.Maps.{stands}
 use Rattle.wire.specs.Reading.{is_quantity, is_price, is_count}
 use Rattle.wire.specs.Rows.{entries, packed, all_held, counted_held}
-use Rattle.wire.proofs.CountedRows.{counts, packed_held}
+use Rattle.wire.specs.CountedRows.{counts, packed_held}
 use Rattle.wire.specs.Lawful.{number_lawful}
 use Rattle.wire.specs.Steps.{ok_same, then_is, drop_on}
 use Rattle.register.specs.declared.data.Card.{Card}
@@ -22,14 +22,15 @@ use Rattle.register.specs.Cards.{regulation, blank_limit, blank_limits}
 use Rattle.register.specs.CardRow.{number_of, numbered_kept, may_stand, cards_checked}
 use Rattle.register.specs.Limits.{limits_held, is_blank_limit, is_blank_limits}
 use Rattle.register_file.specs.File.{contents, before, cards_at, ending_at, file_at, cards_of}
+use Rattle.register_file.specs.FileKeeps.{card_then, card_read, cards_checked_lem, contents_in}
 use Rattle.register_file.specs.FileLaws.{WrittenAs, FileWritten}
 use Rattle.register.specs.Kept.{day_prices, is_day_length, caps_in_order, day_kept, rises_from, rises, first_is, regulation_kept, is_limit, start_up_kept, is_row, ramp_kept, card_kept}
-use Rattle.register.proofs.KeptParts.{kept_parts}
+use Rattle.register.specs.KeptParts.{kept_parts}
 use Rattle.register_file.specs.Writing.{day_bytes, standing_bytes, Writable}
 use Rattle.register.proofs.CardRows.{row_kept_lem, checked_more, passed}
-use Rattle.register_file.proofs.FileCards.{card_then, file_counted}
+use Rattle.register_file.proofs.FileCards.{file_counted}
 use Rattle.register_file.proofs.FileFields.{DayHolds, RegulationOr, StandingHolds, standing_undoes, day_undoes}
-use Rattle.register_file.proofs.FileMeaning.{card_read, cards_checked_lem, holds_tidy, accepted, contents_in, means}
+use Rattle.register_file.proofs.FileMeaning.{holds_tidy, accepted, means}
 use Rattle.register.specs.LimitFields.{limit_blank, limits_blank}
 use Rattle.register_file.proofs.Undoes.{StandsOr}
 

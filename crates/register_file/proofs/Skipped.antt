@@ -9,7 +9,7 @@ use Rattle.wire.specs.Bytes.{Bytes, byte_bytes, word_bytes, long_bytes, signed_b
 use Rattle.wire.specs.Maps.{stands}
 use Rattle.wire.specs.Reading.{Read, byte_at, word_at}
 use Rattle.wire.specs.Rows.{entries, counted_bytes, counted_held}
-use Rattle.wire.proofs.CountedRows.{entries_long, at_most}
+use Rattle.wire.specs.CountedRows.{entries_long, at_most}
 use Rattle.wire.specs.Lawful.{number_lawful}
 use Rattle.wire.specs.Steps.{drop_on}
 use Rattle.register_file.specs.declared.standing.Head.{Head}

@@ -1,10 +1,10 @@
 -- The fields of a register file: how each is read. Assumes nothing.
-use Rattle.std.specs.Prelude.{ℕ, cond, List, [], ℤ, pos, Ok}
+use Rattle.std.specs.Prelude.{ℕ, cond, List, [], ℤ, pos, Ok, Option}
 use Rattle.faults.specs.declared.RecordFault.TheVariants.{OutOfRange}
 use Rattle.wire.specs.declared.counted.Counted.{Counted}
 use Rattle.wire.specs.Maps.{stands}
-use Rattle.wire.specs.Reading.{Read, and_then, pair_at, ranged_at, byte_at, word_at, map_at, quantity_at, price_at}
-use Rattle.wire.specs.Rows.{counted_at}
+use Rattle.wire.specs.Reading.{Read, and_then, pair_at, ranged_at, byte_at, word_at, long_at, map_at, quantity_at, price_at}
+use Rattle.wire.specs.Rows.{packed, counted_at, optional_at}
 use Rattle.register.specs.declared.data.Day.{Day}
 use Rattle.register.specs.declared.data.RampLimits.{RampLimits}
 use Rattle.register.specs.declared.data.Regulation.{Regulation}
@@ -12,7 +12,7 @@ use Rattle.register.specs.declared.data.StartUpLimit.{StartUpLimit}
 use Rattle.register_file.specs.declared.standing.Head.{Head}
 use Rattle.register_file.specs.declared.standing.Services.{Services}
 use Rattle.register_file.specs.declared.standing.Standing.{Standing}
-use Rattle.register.specs.Cards.{regulation, blank_limit, blank_limits, packed_start_up, packed_ramp}
+use Rattle.register.specs.Cards.{regulation, blank_limit, blank_limits}
 use Rattle.register.specs.Kept.{is_owner}
 use Rattle.register.specs.Limits.{limit_at, limits_at}
 
@@ -39,6 +39,10 @@ abbrev pub head_at : List ℕ → ℕ → Read Head
 head_at bytes at =
     and_then (word_at bytes at) (λ number a. and_then (owner_at bytes a) (λ owner b. and_then (map_at last_bit bytes b) (λ map c. and_then (quantity_at bytes c) (λ pmin d. and_then (quantity_at bytes d) (λ pmax next. Ok (head_of number owner map pmin pmax, next))))))
 
+-- a number of 32 bits where its bit stands
+abbrev pub bits_at : ℕ → ℕ → List ℕ → ℕ → Read (Option ℕ)
+bits_at map bit = optional_at (stands bit map) long_at
+
 -- a quantity where its bit stands, else what its absence means
 abbrev pub quantity_or : ℕ → ℕ → ℕ → List ℕ → ℕ → Read ℕ
 quantity_or map bit absent bytes at = cond (stands bit map) (quantity_at bytes at) (Ok (absent, at))
@@ -59,12 +63,16 @@ services_at h bytes at =
     and_then (regulation_at h.map 0 bytes at) (λ up a. and_then (regulation_at h.map 1 bytes a) (λ down b. and_then (quantity_or h.map 2 0 bytes b) (λ spinning c. and_then (quantity_or h.map 3 0 bytes c) (λ non d.
     and_then (quantity_or h.map 4 h.pmax bytes d) (λ limit e. and_then (level_at h.map bytes e) (λ level next. Ok (services_of up down spinning non limit level, next)))))))
 
+-- counted rows where their bit stands, else none
+abbrev pub rows_or_none : {A : Type 0} → A → (List ℕ → ℕ → Read A) → (n : ℕ) → ℕ → ℕ → List ℕ → ℕ → Read (Counted A n)
+rows_or_none blank parsed n map bit bytes at = cond (stands bit map) (counted_at blank parsed n bytes at) (Ok (packed blank n [], at))
+
 -- pairs where bit 6 stands, rows where bit 7 does
 abbrev pub start_up_at : ℕ → List ℕ → ℕ → Read (Counted StartUpLimit 3)
-start_up_at map bytes at = cond (stands 6 map) (counted_at blank_limit limit_at 3 bytes at) (Ok (packed_start_up [], at))
+start_up_at map = rows_or_none blank_limit limit_at 3 map 6
 
 abbrev pub ramp_at : ℕ → List ℕ → ℕ → Read (Counted RampLimits 4)
-ramp_at map bytes at = cond (stands 7 map) (counted_at blank_limits limits_at 4 bytes at) (Ok (packed_ramp [], at))
+ramp_at map = rows_or_none blank_limits limits_at 4 map 7
 
 -- a card as it stands, with its map
 abbrev pub standing_of : Head → Services → Counted StartUpLimit 3 → Counted RampLimits 4 → Standing

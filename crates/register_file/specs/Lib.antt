@@ -4,3 +4,5 @@ pub mod Writing
 pub mod Skipping
 pub mod FileLaws
 pub mod Files
+pub mod FileKeeps
+pub mod Parts

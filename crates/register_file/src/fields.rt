@@ -1,170 +1,130 @@
-// The fields of a register file, read at a place.
+// The fields of a register file, read one after another.
 ghost use Rattle.std.specs.Prelude.{◌≡◌};
-ghost use Rattle.register_file.specs.Fields.{day_at, owner_at, head_at, quantity_or, regulation_at, level_at, services_at, start_up_at, ramp_at, standing_at};
+ghost use Rattle.wire.specs.Reads.{Reads};
+ghost use Rattle.register_file.specs.Parts.{part_bit};
+ghost use Rattle.register_file.specs.Fields.{day_at, owner_at, head_at, bits_at, quantity_or, regulation_at, level_at, services_at, rows_or_none, standing_at};
 
+use crate::parts::{Part, has};
 use crate::standing::{Head, Services, Standing};
 use faults::{Fault, RecordFault};
-use register::{Card, Day, NumberedCard, RampLimits, Regulation, StartUpLimit};
-use wire::field::counted_at;
-use wire::reading::{
-    MAX_PRICE, MAX_QUANTITY, MIN_PRICE, byte_at, cost_at, map_at, place, price_at, quantity_at,
-    word_at,
-};
-use wire::{Counted, Row, stands_in};
+use register::{Card, Day, NumberedCard, Regulation};
+use wire::reader::{fault_at, is_price, is_quantity};
+use wire::{Counted, Field, Reader, Row};
 
 // The last bit of a card's map that has a meaning.
 pub const LAST_BIT: u32 = 7;
 
-pub(crate) fn day_at(bytes: &[u8], at: usize) -> Result<(Day, usize), Fault>
-    ensures { result ≡ day_at bytes.now at }
+pub(crate) fn read_day(reader: &mut Reader) -> Result<Day, Fault>
+    ensures { Reads day_at reader.old result reader.new }
 {
-    let (hours, next) = byte_at(bytes, at)?;
-    let (floor, next) = price_at(bytes, next)?;
-    let (soft_cap, next) = price_at(bytes, next)?;
-    let (hard_cap, next) = price_at(bytes, next)?;
-    let (service_cap, next) = price_at(bytes, next)?;
-    Ok((
-        Day {
-            hours,
-            floor,
-            soft_cap,
-            hard_cap,
-            service_cap,
-        },
-        next,
-    ))
+    Ok(Day {
+        hours: reader.byte()?,
+        floor: reader.price()?,
+        soft_cap: reader.price()?,
+        hard_cap: reader.price()?,
+        service_cap: reader.price()?,
+    })
 }
 
-fn owner_at(bytes: &[u8], at: usize) -> Result<(u8, usize), Fault>
-    ensures { result ≡ owner_at bytes.now at }
+fn read_owner(reader: &mut Reader) -> Result<u8, Fault>
+    ensures { Reads owner_at reader.old result reader.new }
 {
-    match byte_at(bytes, at)? {
-        (owner, _) if owner == 0 => Err(Fault::Record(RecordFault::OutOfRange, place(at))),
-        (owner, next) => Ok((owner, next)),
+    let at = reader.at;
+    match reader.byte()? {
+        owner if owner == 0 => Err(fault_at(RecordFault::OutOfRange, at)),
+        owner => Ok(owner),
     }
 }
 
-fn head_at(bytes: &[u8], at: usize) -> Result<(Head, usize), Fault>
-    ensures { result ≡ head_at bytes.now at }
+fn read_head(reader: &mut Reader) -> Result<Head, Fault>
+    ensures { Reads head_at reader.old result reader.new }
 {
-    let (resource, next) = word_at(bytes, at)?;
-    let (owner, next) = owner_at(bytes, next)?;
-    let (map, next) = map_at(LAST_BIT, bytes, next)?;
-    let (pmin, next) = quantity_at(bytes, next)?;
-    let (pmax, next) = quantity_at(bytes, next)?;
-    Ok((
-        Head {
-            resource,
-            owner,
-            map,
-            pmin,
-            pmax,
-        },
-        next,
-    ))
+    Ok(Head {
+        resource: reader.word()?,
+        owner: read_owner(reader)?,
+        map: reader.map(LAST_BIT)?,
+        pmin: reader.quantity()?,
+        pmax: reader.quantity()?,
+    })
+}
+
+// A number of 32 bits where its bit stands in the map.
+fn read_bits(map: u16, part: Part, reader: &mut Reader) -> Result<Option<u32>, Fault>
+    ensures { Reads (bits_at map (part_bit part)) reader.old result reader.new }
+{
+    if has(map, part) {
+        Ok(Some(reader.cost()?))
+    } else {
+        Ok(None)
+    }
 }
 
 // A quantity where its bit stands in the map, else what its absence means.
-fn quantity_or(
+fn quantity_or(map: u16, part: Part, absent: u32, reader: &mut Reader) -> Result<u32, Fault>
+    ensures { Reads (quantity_or map (part_bit part) absent) reader.old result reader.new }
+{
+    let at = reader.at;
+    match read_bits(map, part, reader)? {
+        Some(value) if !is_quantity(value) => Err(fault_at(RecordFault::OutOfRange, at)),
+        Some(value) => Ok(value),
+        None => Ok(absent),
+    }
+}
+
+fn read_regulation(map: u16, part: Part, reader: &mut Reader) -> Result<Regulation, Fault>
+    ensures { Reads (regulation_at map (part_bit part)) reader.old result reader.new }
+{
+    Ok(Regulation {
+        certified: quantity_or(map, part, 0, reader)?,
+        award: quantity_or(map, part, 0, reader)?,
+    })
+}
+
+fn read_level(map: u16, reader: &mut Reader) -> Result<i32, Fault>
+    ensures { Reads (level_at map) reader.old result reader.new }
+{
+    let at = reader.at;
+    match read_bits(map, Part::Level, reader)? {
+        Some(bits) if !is_price(bits.cast_signed()) => Err(fault_at(RecordFault::OutOfRange, at)),
+        Some(bits) => Ok(bits.cast_signed()),
+        None => Ok(0),
+    }
+}
+
+fn read_services(head: &Head, reader: &mut Reader) -> Result<Services, Fault>
+    ensures { Reads (services_at head.now) reader.old result reader.new }
+{
+    let map = head.map;
+    Ok(Services {
+        up: read_regulation(map, Part::Up, reader)?,
+        down: read_regulation(map, Part::Down, reader)?,
+        spinning: quantity_or(map, Part::Spinning, 0, reader)?,
+        non_spinning: quantity_or(map, Part::NonSpinning, 0, reader)?,
+        regulation_limit: quantity_or(map, Part::RegulationLimit, head.pmax, reader)?,
+        level: read_level(map, reader)?,
+    })
+}
+
+// Counted rows where their bit stands in the map, else none.
+fn rows_or_none<T: Row, const N: usize>(
     map: u16,
-    bit: u32,
-    absent: u32,
-    bytes: &[u8],
-    at: usize,
-) -> Result<(u32, usize), Fault>
-    ensures { result ≡ quantity_or map bit absent bytes.now at }
+    part: Part,
+    reader: &mut Reader,
+) -> Result<Counted<T, N>, Fault>
+    ensures { Reads (rows_or_none T.Row.blank T.Field.parsed N map (part_bit part)) reader.old result reader.new }
 {
-    let present = stands_in(map, bit);
-    let (value, next) = if present {
-        cost_at(bytes, at)?
-    } else {
-        (absent, at)
-    };
-    match (present, value) {
-        (true, value) if value > MAX_QUANTITY => {
-            Err(Fault::Record(RecordFault::OutOfRange, place(at)))
-        }
-        (_, value) => Ok((value, next)),
+    match has(map, part) {
+        true => Counted::read(reader),
+        false => Ok(Counted::of(&[])),
     }
 }
 
-fn regulation_at(map: u16, bit: u32, bytes: &[u8], at: usize) -> Result<(Regulation, usize), Fault>
-    ensures { result ≡ regulation_at map bit bytes.now at }
+// A card as it stands.
+pub(crate) fn read_standing(reader: &mut Reader) -> Result<Standing, Fault>
+    ensures { Reads standing_at reader.old result reader.new }
 {
-    let (certified, next) = quantity_or(map, bit, 0, bytes, at)?;
-    let (award, next) = quantity_or(map, bit, 0, bytes, next)?;
-    Ok((Regulation { certified, award }, next))
-}
-
-fn level_at(map: u16, bytes: &[u8], at: usize) -> Result<(i32, usize), Fault>
-    ensures { result ≡ level_at map bytes.now at }
-{
-    let present = stands_in(map, 5);
-    let (bits, next) = if present {
-        cost_at(bytes, at)?
-    } else {
-        (0, at)
-    };
-    match (present, bits.cast_signed()) {
-        (true, level) if level < MIN_PRICE || level > MAX_PRICE => {
-            Err(Fault::Record(RecordFault::OutOfRange, place(at)))
-        }
-        (_, level) => Ok((level, next)),
-    }
-}
-
-fn services_at(head: &Head, bytes: &[u8], at: usize) -> Result<(Services, usize), Fault>
-    ensures { result ≡ services_at head.now bytes.now at }
-{
-    let (up, next) = regulation_at(head.map, 0, bytes, at)?;
-    let (down, next) = regulation_at(head.map, 1, bytes, next)?;
-    let (spinning, next) = quantity_or(head.map, 2, 0, bytes, next)?;
-    let (non_spinning, next) = quantity_or(head.map, 3, 0, bytes, next)?;
-    let (regulation_limit, next) = quantity_or(head.map, 4, head.pmax, bytes, next)?;
-    let (level, next) = level_at(head.map, bytes, next)?;
-    Ok((
-        Services {
-            up,
-            down,
-            spinning,
-            non_spinning,
-            regulation_limit,
-            level,
-        },
-        next,
-    ))
-}
-
-fn start_up_at(
-    map: u16,
-    bytes: &[u8],
-    at: usize,
-) -> Result<(Counted<StartUpLimit, 3>, usize), Fault>
-    ensures { result ≡ start_up_at map bytes.now at }
-{
-    match stands_in(map, 6) {
-        true => counted_at(bytes, at),
-        false => Ok((Card::blank().start_up, at)),
-    }
-}
-
-fn ramp_at(map: u16, bytes: &[u8], at: usize) -> Result<(Counted<RampLimits, 4>, usize), Fault>
-    ensures { result ≡ ramp_at map bytes.now at }
-{
-    match stands_in(map, 7) {
-        true => counted_at(bytes, at),
-        false => Ok((Card::blank().ramp, at)),
-    }
-}
-
-// A card as it stands at a place.
-pub(crate) fn standing_at(bytes: &[u8], at: usize) -> Result<(Standing, usize), Fault>
-    ensures { result ≡ standing_at bytes.now at }
-{
-    let (head, next) = head_at(bytes, at)?;
-    let (services, next) = services_at(&head, bytes, next)?;
-    let (start_up, next) = start_up_at(head.map, bytes, next)?;
-    let (ramp, next) = ramp_at(head.map, bytes, next)?;
+    let head = read_head(reader)?;
+    let services = read_services(&head, reader)?;
     let card = Card {
         owner: head.owner,
         pmin: head.pmin,
@@ -175,18 +135,14 @@ pub(crate) fn standing_at(bytes: &[u8], at: usize) -> Result<(Standing, usize), 
         non_spinning: services.non_spinning,
         regulation_limit: services.regulation_limit,
         level: services.level,
-        start_up,
-        ramp,
+        start_up: rows_or_none(head.map, Part::StartUp, reader)?,
+        ramp: rows_or_none(head.map, Part::Ramp, reader)?,
     };
-    let numbered = NumberedCard {
-        resource: head.resource,
-        card,
-    };
-    Ok((
-        Standing {
-            map: head.map,
-            numbered,
+    Ok(Standing {
+        map: head.map,
+        numbered: NumberedCard {
+            resource: head.resource,
+            card,
         },
-        next,
-    ))
+    })
 }

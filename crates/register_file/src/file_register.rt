@@ -1,15 +1,17 @@
 // A register file as a register.
-ghost use Rattle.std.specs.Prelude.{◌≡◌};
+ghost use Rattle.std.specs.Prelude.{◌≡◌, IfOk};
 ghost use Rattle.register_file.specs.File.{file_at, answer_only, file_meaning};
+ghost use Rattle.register_file.specs.FileKeeps.{file_keeps};
 ghost use Rattle.register_file.specs.FileLaws.{Placed, ReadAsRow, FileWritten};
-ghost use Rattle.register_file.specs.Files.{closed_bytes};
+ghost use Rattle.register_file.specs.Files.{closed_bytes, file_told, file_made};
 ghost use Rattle.register.specs.Meaning.{granted};
 
+use crate::fields::{read_day, read_standing};
 use crate::file::RegisterFile;
 use crate::file_check::check_file;
-use crate::file_look::{day_in, look_in};
 use faults::Fault;
 use register::{Card, Day, Register};
+use wire::Reader;
 
 impl<'a> RegisterFile<'a> {
     // A register that holds no card, of a day without prices.
@@ -21,6 +23,18 @@ impl<'a> RegisterFile<'a> {
         }
     }
 
+    // The register of a file's bytes, checked front to back, unless they are refused.
+    pub fn new(bytes: &'a [u8]) -> Result<RegisterFile<'a>, Fault>
+        ensures value { file_told result ≡ file_made bytes.now }
+        ensures means { IfOk result (λ r. file_meaning r.bytes.now ≡ file_meaning bytes.now) }
+        ensures placed { Placed bytes.now }
+        ensures rows { ReadAsRow bytes.now }
+        ensures written { FileWritten bytes.now }
+    {
+        check_file(bytes)?;
+        Ok(RegisterFile { bytes })
+    }
+
     // Takes the bytes of a register file, checked front to back, unless they are refused.
     pub fn open(&mut self, bytes: &'a [u8]) -> Result<(), Fault>
         ensures answer { result ≡ answer_only (file_at bytes.now) }
@@ -30,8 +44,7 @@ impl<'a> RegisterFile<'a> {
         ensures rows { ReadAsRow bytes.now }
         ensures written { FileWritten bytes.now }
     {
-        check_file(bytes)?;
-        *self = RegisterFile { bytes };
+        *self = RegisterFile::new(bytes)?;
         Ok(())
     }
 }
@@ -39,11 +52,31 @@ impl<'a> RegisterFile<'a> {
 impl<'a> Register for RegisterFile<'a> {
     ghost meaning = { λ r. file_meaning r.bytes.now };
 
+    ghost keeps = { λ r. file_keeps r.bytes.now r.accepted };
+
     fn day(&self) -> Day {
-        day_in(self.bytes)
+        match read_day(&mut Reader {
+            bytes: self.bytes,
+            at: 0,
+        }) {
+            Ok(day) => day,
+            Err(_) => unreachable!(),
+        }
     }
 
     fn look(&self, resource: u16, card: &mut Card) -> bool {
-        look_in(self.bytes, resource, card)
+        let Some(at) = self.find(resource) else {
+            return false;
+        };
+        match read_standing(&mut Reader {
+            bytes: self.bytes,
+            at,
+        }) {
+            Ok(standing) => {
+                *card = standing.numbered.card;
+                true
+            }
+            Err(_) => unreachable!(),
+        }
     }
 }

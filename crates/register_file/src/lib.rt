@@ -6,6 +6,7 @@ pub mod file;
 mod file_check;
 mod file_look;
 pub mod file_register;
+mod parts;
 mod skipping;
 mod standing;
 

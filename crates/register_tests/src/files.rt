@@ -1,10 +1,8 @@
 // Register files, written from a day and cards.
 use crate::sound::{NO_PAIRS, NO_REGULATION, NO_ROWS};
 use register::{Card, Day, NumberedCard, RampLimits, Regulation, StartUpLimit};
+use std::alloc::{AllocError, Global};
 use wire::Counted;
-
-// Room for three full cards and some bytes more.
-pub const ROOM: usize = 400;
 
 // The bits of a card's map.
 const UP: u16 = 1;
@@ -23,92 +21,106 @@ const START_UP: u16 = 64;
 
 const RAMP: u16 = 128;
 
-#[derive(Clone, Copy)]
-pub struct FileBytes {
-    memory: [u8; ROOM],
-    length: usize,
+// What stands in a file.
+trait Put {
+    fn put(&self, file: &mut Vec<u8>) -> Result<(), AllocError>;
 }
 
-impl FileBytes {
-    // A day, and how many cards follow.
-    pub fn new(day: &Day, count: u16) -> FileBytes {
-        let mut file = FileBytes {
-            memory: [0; ROOM],
-            length: 0,
-        };
-        file.put(&[day.hours]);
-        file.put(&day.floor.to_be_bytes());
-        file.put(&day.soft_cap.to_be_bytes());
-        file.put(&day.hard_cap.to_be_bytes());
-        file.put(&day.service_cap.to_be_bytes());
-        file.put(&count.to_be_bytes());
-        file
+impl Put for u32 {
+    fn put(&self, file: &mut Vec<u8>) -> Result<(), AllocError> {
+        file.extend_from_slice(&self.to_be_bytes())
     }
+}
 
-    pub fn bytes(&self) -> &[u8] {
-        &self.memory[0..self.length.min(ROOM)]
+impl Put for i32 {
+    fn put(&self, file: &mut Vec<u8>) -> Result<(), AllocError> {
+        file.extend_from_slice(&self.to_be_bytes())
     }
+}
 
-    fn put(&mut self, bytes: &[u8]) {
-        for byte in bytes {
-            if self.length < ROOM {
-                self.memory[self.length] = *byte;
-                self.length += 1;
-            }
+impl Put for u16 {
+    fn put(&self, file: &mut Vec<u8>) -> Result<(), AllocError> {
+        file.extend_from_slice(&self.to_be_bytes())
+    }
+}
+
+impl Put for u8 {
+    fn put(&self, file: &mut Vec<u8>) -> Result<(), AllocError> {
+        file.extend_from_slice(&[*self])
+    }
+}
+
+impl Put for Regulation {
+    fn put(&self, file: &mut Vec<u8>) -> Result<(), AllocError> {
+        self.certified.put(file)?;
+        self.award.put(file)
+    }
+}
+
+impl Put for StartUpLimit {
+    fn put(&self, file: &mut Vec<u8>) -> Result<(), AllocError> {
+        self.down_time.put(file)?;
+        self.highest.put(file)
+    }
+}
+
+impl Put for RampLimits {
+    fn put(&self, file: &mut Vec<u8>) -> Result<(), AllocError> {
+        self.level.put(file)?;
+        self.lowest.put(file)?;
+        self.highest.put(file)
+    }
+}
+
+impl<T: Put, const N: usize> Put for Counted<T, N> {
+    fn put(&self, file: &mut Vec<u8>) -> Result<(), AllocError> {
+        self.count.put(file)?;
+        for row in self.standing() {
+            row.put(file)?;
         }
+        Ok(())
     }
+}
 
-    // The next card, with the fields whose bits stand in the map.
-    pub fn put_card(&mut self, map: u16, numbered: &NumberedCard) {
-        let card = &numbered.card;
-        self.put(&numbered.resource.to_be_bytes());
-        self.put(&[card.owner]);
-        self.put(&map.to_be_bytes());
-        self.put(&card.pmin.to_be_bytes());
-        self.put(&card.pmax.to_be_bytes());
-        self.put_regulation(map & UP, &card.up);
-        self.put_regulation(map & DOWN, &card.down);
-        self.put_number(map & SPINNING, card.spinning);
-        self.put_number(map & NON_SPINNING, card.non_spinning);
-        self.put_number(map & REGULATION_LIMIT, card.regulation_limit);
-        self.put_number(map & LEVEL, card.level.cast_unsigned());
-        self.put_pairs(map & START_UP, &card.start_up);
-        self.put_rows(map & RAMP, &card.ramp);
+impl Put for Day {
+    fn put(&self, file: &mut Vec<u8>) -> Result<(), AllocError> {
+        self.hours.put(file)?;
+        self.floor.put(file)?;
+        self.soft_cap.put(file)?;
+        self.hard_cap.put(file)?;
+        self.service_cap.put(file)
     }
+}
 
-    fn put_number(&mut self, bit: u16, number: u32) {
-        if bit != 0 {
-            self.put(&number.to_be_bytes());
-        }
-    }
+// A day, and how many cards follow.
+pub fn day_and_count(day: &Day, count: u16, heap: Global) -> Result<Vec<u8>, AllocError> {
+    let mut file = Vec::new(heap);
+    day.put(&mut file)?;
+    count.put(&mut file)?;
+    Ok(file)
+}
 
-    fn put_regulation(&mut self, bit: u16, regulation: &Regulation) {
-        self.put_number(bit, regulation.certified);
-        self.put_number(bit, regulation.award);
-    }
+// A field, if its bit stands in the map.
+fn put_where<T: Put>(bit: u16, field: &T, file: &mut Vec<u8>) -> Result<(), AllocError> {
+    if bit == 0 { Ok(()) } else { field.put(file) }
+}
 
-    fn put_pairs(&mut self, bit: u16, counted: &Counted<StartUpLimit, 3>) {
-        if bit == 0 {
-            return;
-        }
-        self.put(&[counted.count]);
-        for pair in counted.rows.iter().take(counted.count as usize) {
-            self.put(&pair.down_time.to_be_bytes());
-            self.put(&pair.highest.to_be_bytes());
-        }
-    }
-
-    fn put_rows(&mut self, bit: u16, counted: &Counted<RampLimits, 4>) {
-        if bit == 0 {
-            return;
-        }
-        self.put(&[counted.count]);
-        for row in counted.rows.iter().take(counted.count as usize) {
-            self.put(&row.level.to_be_bytes());
-            self.put(&row.lowest.to_be_bytes());
-            self.put(&row.highest.to_be_bytes());
-        }
-    }
+// The next card, with the fields whose bits stand in the map.
+pub fn put_card(map: u16, numbered: &NumberedCard, file: &mut Vec<u8>) -> Result<(), AllocError> {
+    let card = &numbered.card;
+    numbered.resource.put(file)?;
+    card.owner.put(file)?;
+    map.put(file)?;
+    card.pmin.put(file)?;
+    card.pmax.put(file)?;
+    put_where(map & UP, &card.up, file)?;
+    put_where(map & DOWN, &card.down, file)?;
+    put_where(map & SPINNING, &card.spinning, file)?;
+    put_where(map & NON_SPINNING, &card.non_spinning, file)?;
+    put_where(map & REGULATION_LIMIT, &card.regulation_limit, file)?;
+    put_where(map & LEVEL, &card.level, file)?;
+    put_where(map & START_UP, &card.start_up, file)?;
+    put_where(map & RAMP, &card.ramp, file)
 }
 
 // Every bit stands, but not that of pairs or rows where there are none.
@@ -123,41 +135,31 @@ pub fn map_of(card: &Card) -> u16 {
 }
 
 // A file of these cards, each with all that it has.
-pub fn file_of(day: &Day, cards: &[NumberedCard]) -> FileBytes {
+pub fn file_of(day: &Day, cards: &[NumberedCard], heap: Global) -> Result<Vec<u8>, AllocError> {
     let count = cards.len().min(65_535);
-    let mut file = FileBytes::new(day, count as u16);
+    let mut file = day_and_count(day, count as u16, heap)?;
     for numbered in cards {
-        file.put_card(map_of(&numbered.card), numbered);
+        put_card(map_of(&numbered.card), numbered, &mut file)?;
     }
-    file
+    Ok(file)
+}
+
+// A field if its bit stands, and else what a card has in its place.
+fn where_it_stands<T: Copy>(bit: u16, field: T, else_is: T) -> T {
+    if bit == 0 { else_is } else { field }
 }
 
 // What a card says of which only the fields stand whose bits are in the map.
 pub fn standing(map: u16, card: &Card) -> Card {
-    let mut left = *card;
-    if map & UP == 0 {
-        left.up = NO_REGULATION;
+    Card {
+        up: where_it_stands(map & UP, card.up, NO_REGULATION),
+        down: where_it_stands(map & DOWN, card.down, NO_REGULATION),
+        spinning: where_it_stands(map & SPINNING, card.spinning, 0),
+        non_spinning: where_it_stands(map & NON_SPINNING, card.non_spinning, 0),
+        regulation_limit: where_it_stands(map & REGULATION_LIMIT, card.regulation_limit, card.pmax),
+        level: where_it_stands(map & LEVEL, card.level, 0),
+        start_up: where_it_stands(map & START_UP, card.start_up, NO_PAIRS),
+        ramp: where_it_stands(map & RAMP, card.ramp, NO_ROWS),
+        ..*card
     }
-    if map & DOWN == 0 {
-        left.down = NO_REGULATION;
-    }
-    if map & SPINNING == 0 {
-        left.spinning = 0;
-    }
-    if map & NON_SPINNING == 0 {
-        left.non_spinning = 0;
-    }
-    if map & REGULATION_LIMIT == 0 {
-        left.regulation_limit = card.pmax;
-    }
-    if map & LEVEL == 0 {
-        left.level = 0;
-    }
-    if map & START_UP == 0 {
-        left.start_up = NO_PAIRS;
-    }
-    if map & RAMP == 0 {
-        left.ramp = NO_ROWS;
-    }
-    left
 }

@@ -1,16 +1,17 @@
 // What opening a register file answers, byte by byte.
-use crate::files::FileBytes;
-use crate::flaws::{FILE, Flaw, Length, flaws, lengths};
+use crate::files::{day_and_count, put_card};
+use crate::flaws::{FILE, FLAWS, Flaw, LENGTHS, Length};
 use crate::sound::{DAY, bare, full, narrow, numbered};
-use crate::told::{GRANTED, Told, told};
+use crate::told::{GRANTED, Outcome, Told, answered};
 use register_file::RegisterFile;
 use std::process::Abort;
+use std::test::Fail;
 
 // Room for the file and some zeros behind it.
 const ROOM: usize = 170;
 
-fn opened(bytes: &[u8]) -> Told {
-    told(RegisterFile::closed().open(bytes))
+fn opened(bytes: &[u8]) -> Outcome {
+    answered(RegisterFile::closed().open(bytes))
 }
 
 // Lays bytes over memory from a place on.
@@ -32,34 +33,35 @@ fn a_sound_file_at_every_length(rt: HostRuntime) {
     let memory = file_and_zeros();
     for n in 0..ROOM {
         let expected = if n < 158 {
-            (1, 1, n as u32)
+            Err(Told(1, 1, n as u32))
         } else if n == 158 {
             GRANTED
         } else {
-            (5, 1, 158)
+            Err(Told(5, 1, 158))
         };
-        assert_eq!(rt; opened(&memory[0..n]), expected, "{}", n);
+        assert_eq!(rt; opened(&memory[..n]), expected, "{}", n);
     }
 }
 
 // The bytes of the file are those that its day and cards are written as.
 #[test]
-fn a_sound_file_written(rt: HostRuntime) {
-    let mut file = FileBytes::new(&DAY, 3);
-    file.put_card(255, &numbered(7, full()));
-    file.put_card(0, &numbered(8, bare()));
-    file.put_card(0, &numbered(300, narrow()));
-    assert_eq!(rt; file.bytes(), &FILE[..]);
+fn a_sound_file_written(rt: HostRuntime) -> Result<(), Fail> {
+    let mut file = day_and_count(&DAY, 3, rt.alloc())?;
+    put_card(255, &numbered(7, full()), &mut file)?;
+    put_card(0, &numbered(8, bare()), &mut file)?;
+    put_card(0, &numbered(300, narrow()), &mut file)?;
+    assert_eq!(rt; &file[..], &FILE[..]);
+    Ok(())
 }
 
 #[test]
 fn cards_counted_and_standing(rt: HostRuntime) {
-    for Length(count, length, expected) in lengths() {
+    for Length(count, length, expected) in &LENGTHS {
         let mut memory = file_and_zeros();
         lay(&count.to_be_bytes(), 17, &mut memory);
         assert!(rt; *length <= ROOM);
         let label = format_args!("{count} cards, {length} bytes");
-        assert_eq!(rt; opened(&memory[0..*length]), *expected, "{}", label);
+        assert_eq!(rt; opened(&memory[..*length]), *expected, "{}", label);
     }
 }
 
@@ -69,14 +71,18 @@ fn told_from_its_end_on(rt: &impl Abort, flaw: &Flaw) {
     let mut memory = file_and_zeros();
     lay(bytes, at, &mut memory);
     for n in 0..ROOM {
-        let answer = if n < from { (1, 1, n as u32) } else { expected };
-        assert_eq!(rt; opened(&memory[0..n]), answer, "{label}, {n}");
+        let told = if n < from {
+            Told(1, 1, n as u32)
+        } else {
+            expected
+        };
+        assert_eq!(rt; opened(&memory[..n]), Err(told), "{label}, {n}");
     }
 }
 
 #[test]
 fn each_flaw_of_a_file(rt: HostRuntime) {
-    for flaw in flaws() {
+    for flaw in &FLAWS {
         told_from_its_end_on(&rt, flaw);
     }
 }
@@ -85,8 +91,8 @@ fn each_flaw_of_a_file(rt: HostRuntime) {
 #[test]
 fn the_first_of_several_flaws(rt: HostRuntime) {
     let mut memory = file_and_zeros();
-    for Flaw(label, at, bytes, _, expected) in flaws().iter().rev() {
+    for Flaw(label, at, bytes, _, expected) in FLAWS.iter().rev() {
         lay(bytes, *at, &mut memory);
-        assert_eq!(rt; opened(&memory), *expected, "{}", *label);
+        assert_eq!(rt; opened(&memory), Err(*expected), "{}", *label);
     }
 }

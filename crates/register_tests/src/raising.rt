@@ -2,24 +2,24 @@
 use crate::files::file_of;
 use crate::looking::means;
 use crate::sound::{DAY, full, numbered, of_level};
-use crate::told::{GRANTED, Told, told};
+use crate::told::{GRANTED, Outcome, Told, answered};
 use raised::Raised;
 use register::{CardRow, NumberedCard, Register};
 use register_file::RegisterFile;
-use std::alloc::Global;
+use std::array::from_fn;
 use std::process::Abort;
 use std::test::Fail;
 
 // The level below, the level that it is raised to, and what is told.
-struct Raise(&'static str, i32, i32, Told);
+struct Raise(&'static str, i32, i32, Outcome);
 
-const NO_PRICE: Told = (4, 1, 0);
+const NO_PRICE: Outcome = Err(Told(4, 1, 0));
 
-const NOT_HELD: Told = (6, 2, 0);
+const NOT_HELD: Outcome = Err(Told(6, 2, 0));
 
-const NOT_ALLOWED: Told = (23, 2, 0);
+const NOT_ALLOWED: Outcome = Err(Told(23, 2, 0));
 
-const NO_PLACE: Told = (18, 4, 0);
+const NO_PLACE: Outcome = Err(Told(18, 4, 0));
 
 static RAISES: [Raise; 40] = [
     // A tenth of 120,000 is 12,000.
@@ -81,68 +81,57 @@ static RAISES: [Raise; 40] = [
     Raise("highest to far above", 10_000_000, 2_147_483_647, NO_PRICE),
 ];
 
-fn set_level<const N: usize>(cards: &mut [NumberedCard; N], resource: u16, level: i32) {
-    for i in 0..N {
-        if cards[i].resource == resource {
-            cards[i].card.level = level;
+fn set_level(cards: &mut [NumberedCard], resource: u16, level: i32) {
+    for numbered in cards {
+        if numbered.resource == resource {
+            numbered.card.level = level;
         }
     }
 }
 
 // A resource and the level that it is raised to, and what is told.
 #[derive(Drop)]
-struct Another(&'static str, u16, i32, Told);
+struct Another(&'static str, u16, i32, Outcome);
 
 // A layer that means some cards answers as told; the level is raised if that is granted, and all else stays.
-fn raised_as_told<R: Register, const N: usize>(
-    rt: &impl Abort,
+fn raised_as_told<R: Register>(
+    rt: &(impl Abort + AllocGlobal),
     case: &str,
     layer: &mut Raised<R>,
-    cards: &mut [NumberedCard; N],
+    cards: &mut [NumberedCard],
     another: &Another,
     asked: &[u16],
-    heap: Global,
 ) -> Result<(), Fail> {
     let Another(_, resource, level, expected) = *another;
-    assert_eq!(rt; told(layer.raise(resource, level)), expected, "{case}");
-    if expected == GRANTED {
+    assert_eq!(rt; answered(layer.raise(resource, level)), expected, "{case}");
+    if expected.is_ok() {
         set_level(cards, resource, level);
     }
-    means(rt, case, layer, &DAY, &cards[..], asked, heap)
+    means(rt, case, layer, &DAY, cards, asked)
 }
 
-fn raised_alone(
-    rt: &impl Abort,
-    case: &str,
-    below: i32,
-    level: i32,
-    expected: Told,
-    heap: Global,
-) -> Result<(), Fail> {
+fn raised_alone(rt: &(impl Abort + AllocGlobal), raise: &Raise) -> Result<(), Fail> {
+    let Raise(case, below, level, expected) = *raise;
     let cards = [numbered(7, of_level(below)), numbered(8, full())];
     let mut after = cards;
     let mut row = CardRow::closed();
     row.open(DAY, &cards)?;
     let mut layer = Raised::new(row);
     let raise = Another("alone", 7, level, expected);
-    raised_as_told(rt, case, &mut layer, &mut after, &raise, &[6, 7, 8], heap)
+    raised_as_told(rt, case, &mut layer, &mut after, &raise, &[6, 7, 8])
 }
 
 #[test]
 fn each_raise(rt: HostRuntime) -> Result<(), Fail> {
-    for Raise(label, below, level, expected) in &RAISES {
-        raised_alone(&rt, *label, *below, *level, *expected, rt.alloc())?;
+    for raise in &RAISES {
+        raised_alone(&rt, raise)?;
     }
     Ok(())
 }
 
 // Resources 1, 4, 7 .. with levels 0, 100, 200 ..
 fn many() -> [NumberedCard; 34] {
-    let mut cards = [numbered(1, of_level(0)); 34];
-    for i in 0..34u16 {
-        cards[i as usize] = numbered(1 + 3 * i, of_level(100 * i as i32));
-    }
-    cards
+    from_fn(|i| numbered(1 + 3 * i as u16, of_level(100 * i as i32)))
 }
 
 // When 32 resources are raised to their thresholds; the last of them is 94, from 3100 to 3410.
@@ -185,26 +174,10 @@ fn thirty_two_raised_resources(rt: HostRuntime) -> Result<(), Fail> {
     for i in 0..32u16 {
         let raise = Another("to its threshold", 1 + 3 * i, 110 * i as i32, GRANTED);
         let case = format!(in rt.alloc(); "{i}")?;
-        raised_as_told(
-            &rt,
-            &case,
-            &mut layer,
-            &mut after,
-            &raise,
-            &ASKED,
-            rt.alloc(),
-        )?;
+        raised_as_told(&rt, &case, &mut layer, &mut after, &raise, &ASKED)?;
     }
     for another in &ANOTHER {
-        raised_as_told(
-            &rt,
-            another.0,
-            &mut layer,
-            &mut after,
-            another,
-            &ASKED,
-            rt.alloc(),
-        )?;
+        raised_as_told(&rt, another.0, &mut layer, &mut after, another, &ASKED)?;
     }
     Ok(())
 }
@@ -239,32 +212,16 @@ fn of_levels(first: i32, second: i32, third: i32) -> [NumberedCard; 3] {
 
 #[test]
 fn a_layer_over_a_layer_over_a_file(rt: HostRuntime) -> Result<(), Fail> {
-    let written = file_of(&DAY, &of_levels(120_000, 120_000, 120_000));
+    let written = file_of(&DAY, &of_levels(120_000, 120_000, 120_000), rt.alloc())?;
     let mut file = RegisterFile::closed();
-    file.open(written.bytes())?;
+    file.open(&written)?;
     let mut lower = Raised::new(file);
     lower.raise(7, 132_000)?;
     let mut upper = Raised::new(lower);
     let mut after = of_levels(132_000, 120_000, 120_000);
     for another in &UPPER {
-        raised_as_told(
-            &rt,
-            another.0,
-            &mut upper,
-            &mut after,
-            another,
-            &AROUND,
-            rt.alloc(),
-        )?;
+        raised_as_told(&rt, another.0, &mut upper, &mut after, another, &AROUND)?;
     }
     let expected = of_levels(140_000, 132_000, 120_000);
-    means(
-        &rt,
-        "in the end",
-        &upper,
-        &DAY,
-        &expected,
-        &AROUND,
-        rt.alloc(),
-    )
+    means(&rt, "in the end", &upper, &DAY, &expected, &AROUND)
 }

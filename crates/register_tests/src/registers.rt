@@ -1,26 +1,19 @@
 // Each kind of register is opened, looked at and layered.
+use crate::sound::DAY;
 use raised::Raised;
-use register::{Card, CardRow, Day, NumberedCard, Register};
+use register::{Card, CardRow, NumberedCard, Register};
 use register_file::RegisterFile;
 use std::test::Fail;
 
-fn day() -> Day {
-    Day {
-        hours: 24,
-        floor: -15000,
-        soft_cap: 100000,
-        hard_cap: 200000,
-        service_cap: 25000,
-    }
-}
-
 fn numbered() -> NumberedCard {
-    let mut card = Card::blank();
-    card.owner = 3;
-    card.pmin = 2000;
-    card.pmax = 10000;
-    card.regulation_limit = 9000;
-    card.level = 120000;
+    let card = Card {
+        owner: 3,
+        pmin: 2000,
+        pmax: 10000,
+        regulation_limit: 9000,
+        level: 120000,
+        ..Card::blank()
+    };
     NumberedCard { resource: 7, card }
 }
 
@@ -28,7 +21,7 @@ fn numbered() -> NumberedCard {
 fn levels_over_levels_over_cards(rt: HostRuntime) -> Result<(), Fail> {
     let cards = [numbered()];
     let mut row = CardRow::closed();
-    row.open(day(), &cards)?;
+    row.open(DAY, &cards)?;
     let mut layer = Raised::new(row);
     assert!(rt; layer.raise(7, 132001).is_err());
     layer.raise(7, 132000)?;

@@ -181,10 +181,8 @@ pub fn of_level(level: i32) -> Card {
 
 fn zeros_behind<T: Copy, const N: usize>(blank: T, counted: &Counted<T, N>) -> Counted<T, N> {
     let mut after = *counted;
-    for i in 0..N {
-        if i >= counted.count as usize {
-            after.rows[i] = blank;
-        }
+    for row in after.rows.iter_mut().skip(counted.count as usize) {
+        *row = blank;
     }
     after
 }

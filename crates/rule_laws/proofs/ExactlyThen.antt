@@ -12,7 +12,7 @@ use Rattle.faults.specs.declared.RegisterFault.TheVariants.{NotTheOwner, NoSuchH
 use Rattle.faults.specs.declared.RuleFault.{RuleFault}
 use Rattle.faults.specs.declared.RuleFault.TheVariants.{SelfSchedule, CurveStart, StepEnd, StepPrice, Service as ServiceFault, StartUp as StartUpFault, Ramp as RampFault, ReserveAboveTop, EleventhStep}
 use Rattle.wire.specs.Rows.{entries}
-use Rattle.wire.proofs.CountedRows.{entries-packed}
+use Rattle.wire.specs.CountedRows.{entries-packed}
 use Rattle.bid.specs.declared.components.Components.{Components}
 use Rattle.bid.specs.declared.components.Curve.{Curve}
 use Rattle.bid.specs.declared.components.Ramp.{Ramp}

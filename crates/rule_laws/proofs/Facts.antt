@@ -7,7 +7,7 @@ use Rattle.wire.specs.Reading.{is_price}
 use Rattle.register.specs.declared.data.Card.{Card}
 use Rattle.register.specs.declared.data.Day.{Day}
 use Rattle.register.specs.Kept.{day_kept, day_prices, caps_in_order, is_day_length, card_kept}
-use Rattle.register.proofs.KeptParts.{kept_parts}
+use Rattle.register.specs.KeptParts.{kept_parts}
 use Rattle.checks.specs.Terms.{ceiling, extension_price}
 
 pub record DayParts (d : Day) : Type 0 where

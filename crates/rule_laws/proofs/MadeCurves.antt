@@ -6,7 +6,7 @@ use Rattle.std.proofs.lemmas.Int.{ints}
 use Rattle.std.proofs.lemmas.Bool.{and_parts, both_ways, cases_Bool, cases_lt, leb-true}
 use Rattle.std.specs.Int.{int_min}
 use Rattle.wire.specs.Rows.{packed, optional_held}
-use Rattle.wire.proofs.CountedRows.{entries-packed}
+use Rattle.wire.specs.CountedRows.{entries-packed}
 use Rattle.bid.specs.declared.components.Components.{Components}
 use Rattle.bid.specs.declared.components.Curve.{Curve}
 use Rattle.bid.specs.declared.components.Step.{Step}

@@ -7,7 +7,7 @@ use Rattle.std.specs.Int.{int_min}
 use Rattle.register.specs.Kept.{day_kept, card_kept}
 use Rattle.wire.specs.Reading.{is_quantity, is_price, is_count}
 use Rattle.wire.specs.Rows.{packed, all_held, optional_held}
-use Rattle.wire.proofs.CountedRows.{packed_held, entries_held, entries_long, counts}
+use Rattle.wire.specs.CountedRows.{packed_held, entries_held, entries_long, counts}
 use Rattle.wire.specs.Steps.{ok_not_err, ok_same}
 use Rattle.bid.specs.declared.components.Components.{Components}
 use Rattle.bid.specs.declared.components.Curve.{Curve}

@@ -4,7 +4,7 @@ use Rattle.std.proofs.lemmas.Bool.{and_parts, leb-true, cases_lt}
 use Rattle.std.proofs.lemmas.Bool.Decides.{nat_tests}
 use Rattle.std.specs.Int.{int_min}
 use Rattle.wire.specs.Rows.{entries, optional_held}
-use Rattle.wire.proofs.CountedRows.{at_most, entries_long}
+use Rattle.wire.specs.CountedRows.{at_most, entries_long}
 use Rattle.bid.specs.declared.components.Components.{Components}
 use Rattle.bid.specs.declared.components.Curve.{Curve}
 use Rattle.bid.specs.declared.components.Ramp.{Ramp}

@@ -6,7 +6,7 @@ use Rattle.std.proofs.lemmas.Int.{ints}
 use Rattle.std.proofs.lemmas.Bool.{and_parts, leb-true, lt-leb, le-ltb, eqb-true, eq-eqb, not-false, cond-true, cond-false, cases_Bool, or_parts, or_from, or_left, or_right, or_cases, and_left, and_right}
 use Rattle.std.specs.Int.{int_min, int_max}
 use Rattle.wire.specs.Rows.{optional_held}
-use Rattle.wire.proofs.CountedRows.{entries-packed}
+use Rattle.wire.specs.CountedRows.{entries-packed}
 use Rattle.wire.specs.Steps.{ok_not_err}
 use Rattle.bid.specs.declared.components.Components.{Components}
 use Rattle.bid.specs.declared.components.Curve.{Curve}

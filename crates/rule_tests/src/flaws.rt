@@ -10,6 +10,18 @@ pub struct Flaw(
     pub u32,
 );
 
+impl Flaw {
+    // The place behind what is laid.
+    fn end(&self) -> usize {
+        self.1.saturating_add(self.2.len())
+    }
+
+    // Whether two flaws lie over no byte both.
+    pub fn is_apart(&self, other: &Flaw) -> bool {
+        self.end() <= other.1 || other.end() <= self.1
+    }
+}
+
 // The coordinator of resource 9. A filing is the coordinator, and behind it the record.
 pub const OWNER: u8 = 3;
 
@@ -1350,48 +1362,16 @@ static RAMP: [Flaw; 20] = [
     ),
 ];
 
-fn head() -> &'static [Flaw] {
-    &HEAD
-}
-
-fn record_steps() -> &'static [Flaw] {
-    &RECORD_STEPS
-}
-
-fn record_rows() -> &'static [Flaw] {
-    &RECORD_ROWS
-}
-
-fn register() -> &'static [Flaw] {
-    &REGISTER
-}
-
-fn first_steps() -> &'static [Flaw] {
-    &FIRST_STEPS
-}
-
-fn last_steps() -> &'static [Flaw] {
-    &LAST_STEPS
-}
-
-fn services() -> &'static [Flaw] {
-    &SERVICES
-}
-
-fn ramp() -> &'static [Flaw] {
-    &RAMP
-}
-
 // All of them, in their order.
 pub fn flaws() -> [&'static [Flaw]; 8] {
     [
-        head(),
-        record_steps(),
-        record_rows(),
-        register(),
-        first_steps(),
-        last_steps(),
-        services(),
-        ramp(),
+        &HEAD,
+        &RECORD_STEPS,
+        &RECORD_ROWS,
+        &REGISTER,
+        &FIRST_STEPS,
+        &LAST_STEPS,
+        &SERVICES,
+        &RAMP,
     ]
 }

@@ -206,15 +206,7 @@ static OTHERS: [Kept; 15] = [
     Kept("every component with all its rows", Length::Usual, 3, FULL),
 ];
 
-fn limits() -> &'static [Kept] {
-    &LIMITS
-}
-
-fn others() -> &'static [Kept] {
-    &OTHERS
-}
-
 // All of them.
 pub fn kept_bids() -> [&'static [Kept]; 2] {
-    [limits(), others()]
+    [&LIMITS, &OTHERS]
 }

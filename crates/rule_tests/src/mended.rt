@@ -678,23 +678,7 @@ static SEVERAL: [Mended; 8] = [
     ),
 ];
 
-fn prices() -> &'static [Mended] {
-    &PRICES
-}
-
-fn regulation() -> &'static [Mended] {
-    &REGULATION
-}
-
-fn curves() -> &'static [Mended] {
-    &CURVES
-}
-
-fn several() -> &'static [Mended] {
-    &SEVERAL
-}
-
 // All of them.
 pub fn mended_bids() -> [&'static [Mended]; 4] {
-    [prices(), regulation(), curves(), several()]
+    [&PRICES, &REGULATION, &CURVES, &SEVERAL]
 }

@@ -1038,23 +1038,7 @@ static RAMP: [Refused; 24] = [
     ),
 ];
 
-fn filing() -> &'static [Refused] {
-    &FILING
-}
-
-fn energy() -> &'static [Refused] {
-    &ENERGY
-}
-
-fn services() -> &'static [Refused] {
-    &SERVICES
-}
-
-fn ramp() -> &'static [Refused] {
-    &RAMP
-}
-
 // All of them.
 pub fn refused_bids() -> [&'static [Refused]; 4] {
-    [filing(), energy(), services(), ramp()]
+    [&FILING, &ENERGY, &SERVICES, &RAMP]
 }

@@ -9,7 +9,7 @@ ghost use Rattle.rules.specs.Told.{told};
 
 use crate::judged::Judged;
 use bid::Bid;
-use checks::check;
+use checks::Registered;
 use faults::{Fault, RegisterFault, WindowFault};
 use mending::{marks, mend_bid};
 use register::{Card, Register};
@@ -22,9 +22,12 @@ fn rule_bid<R: Register>(register: &R, coordinator: u8, bid: &Bid) -> Result<Jud
     if !register.look(bid.components.resource, &mut card) {
         return Err(Fault::Register(RegisterFault::ResourceNotHeld, 0));
     }
-    let day = register.day();
-    check(coordinator, &day, &card, &bid.components)?;
-    let components = mend_bid(&day, &card, bid)?;
+    let registered = Registered {
+        day: &register.day(),
+        card: &card,
+    };
+    registered.check(coordinator, &bid.components)?;
+    let components = mend_bid(&registered, bid)?;
     let marks = marks(&bid.components, &components);
     Ok(Judged {
         row: Bid { components },

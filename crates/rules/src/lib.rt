@@ -6,5 +6,5 @@ mod judging;
 
 pub use judged::Judged;
 pub use judging::{judge, judge_bid};
-pub use mending::marks;
+pub use mending::{Mark, marks};
 pub use rule_laws::worked_bids_stand;

@@ -10,7 +10,7 @@ pub fn cut(record: &[u8]) -> &[u8] {
 
 // Sets the lowest bit of the map's upper byte, which no field has.
 pub fn unknown_bit(record: &mut [u8]) {
-    if record.len() > 3 {
-        record[3] |= 1;
+    if let Some(byte) = record.get_mut(3) {
+        *byte |= 1;
     }
 }

@@ -3,47 +3,45 @@ use crate::records::tell_denial;
 use crate::{desk, plant};
 use bid::{Bid, Components};
 use register_file::RegisterFile;
-use rules::{Judged, judge_bid};
+use rules::{Judged, Mark, judge_bid};
 use words::tell_bid;
 
 // The coordinator who files.
 const COORDINATOR: u8 = 3;
 
-// What each mark means; the bit of a mark that stands is odd after the division.
-fn tell_mark(rt: &HostRuntime, marks: u16, bit: u16, words: &str) -> anyhow::Result<()> {
-    if bit > 0 && marks / bit % 2 == 1 {
-        println!(rt; "    mark {bit}: {words}")?;
-    }
-    Ok(())
-}
+// What each mark means.
+const MEANINGS: [(Mark, &str); 6] = [
+    (Mark::Price, "a price above the ceiling became the ceiling"),
+    (
+        Mark::Quantities,
+        "the curve was extended to carry the reserves",
+    ),
+    (
+        Mark::Spinning,
+        "Spinning was erased, as no energy is offered with it",
+    ),
+    (
+        Mark::NonSpinning,
+        "Non-Spinning was erased, as no energy is offered with it",
+    ),
+    (
+        Mark::RegulationUp,
+        "Regulation Up was set to what is free of its award",
+    ),
+    (
+        Mark::RegulationDown,
+        "Regulation Down was set to what is free of its award",
+    ),
+];
 
 fn tell_marks(rt: &HostRuntime, marks: u16) -> anyhow::Result<()> {
-    tell_mark(rt, marks, 1, "a price above the ceiling became the ceiling")?;
-    tell_mark(rt, marks, 2, "the curve was extended to carry the reserves")?;
-    tell_mark(
-        rt,
-        marks,
-        4,
-        "Spinning was erased, as no energy is offered with it",
-    )?;
-    tell_mark(
-        rt,
-        marks,
-        8,
-        "Non-Spinning was erased, as no energy is offered with it",
-    )?;
-    tell_mark(
-        rt,
-        marks,
-        16,
-        "Regulation Up was set to what is free of its award",
-    )?;
-    tell_mark(
-        rt,
-        marks,
-        32,
-        "Regulation Down was set to what is free of its award",
-    )
+    for (mark, words) in MEANINGS {
+        let bit = mark.bit();
+        if marks & bit != 0 {
+            println!(rt; "    mark {bit}: {words}")?;
+        }
+    }
+    Ok(())
 }
 
 fn tell_granted(rt: &HostRuntime, judged: &Judged) -> anyhow::Result<()> {
@@ -78,12 +76,14 @@ fn tell_judged(
 
 pub fn tell(rt: &HostRuntime) -> anyhow::Result<()> {
     println!(rt; "The morning's bids are judged against the register.")?;
-    let mut file = RegisterFile::closed();
-    if let Err(fault) = file.open(&plant::REGISTER) {
-        return tell_denial(rt, fault);
-    }
+    let file = match RegisterFile::new(&plant::REGISTER) {
+        Ok(file) => file,
+        Err(fault) => return tell_denial(rt, fault),
+    };
     tell_judged(rt, &file, &desk::morning_bid())?;
-    tell_judged(rt, &file, &desk::full_bid())?;
+    // All of PMax.
+    tell_judged(rt, &file, &desk::schedule_bid(9, 10_000))?;
     tell_judged(rt, &file, &desk::dear_bid())?;
-    tell_judged(rt, &file, &desk::low_bid())
+    // A hundredth of a MW below PMin.
+    tell_judged(rt, &file, &desk::schedule_bid(11, 1_999))
 }

@@ -4,9 +4,6 @@ use bid::Bid;
 use faults::Fault;
 use words::{Hex, tell_bid};
 
-// The longest record that there is.
-pub const LONGEST: usize = 178;
-
 pub fn tell_denial(rt: &HostRuntime, fault: Fault) -> anyhow::Result<()> {
     println!(rt; "  denied: {fault}")?;
     Ok(())
@@ -27,20 +24,17 @@ fn tell_record(rt: &HostRuntime, record: &[u8]) -> anyhow::Result<()> {
 }
 
 fn tell_written(rt: &HostRuntime, bid: &Bid) -> anyhow::Result<()> {
-    let mut memory = [0u8; LONGEST];
-    match bid.write(&mut memory) {
-        Ok(length) => {
-            println!(rt; "Its record, as it is filed:")?;
-            let record = &memory[0..length];
-            tell_record(rt, record)?;
-            println!(rt; "The same record with its last byte lost on the way:")?;
-            tell_record(rt, damage::cut(record))?;
-            println!(rt; "The same record with a bit set that no field has:")?;
-            damage::unknown_bit(&mut memory);
-            tell_record(rt, &memory[0..length])
-        }
-        Err(fault) => tell_denial(rt, fault),
+    let mut record = vec![in rt.alloc(); 0; bid.length()]?;
+    if let Err(fault) = bid.write(&mut record) {
+        return tell_denial(rt, fault);
     }
+    println!(rt; "Its record, as it is filed:")?;
+    tell_record(rt, &record)?;
+    println!(rt; "The same record with its last byte lost on the way:")?;
+    tell_record(rt, damage::cut(&record))?;
+    println!(rt; "The same record with a bit set that no field has:")?;
+    damage::unknown_bit(&mut record);
+    tell_record(rt, &record)
 }
 
 pub fn tell(rt: &HostRuntime) -> anyhow::Result<()> {
@@ -53,7 +47,8 @@ pub fn tell(rt: &HostRuntime) -> anyhow::Result<()> {
         Err(fault) => tell_denial(rt, fault)?,
     }
     println!(rt; "A bid with a quantity that no plant has is not even made into a record.")?;
-    match Bid::make(&desk::impossible_bid()) {
+    // Over 100,000 MW.
+    match Bid::make(&desk::schedule_bid(8, 10_000_001)) {
         Ok(bid) => tell_bid(rt, &bid)?,
         Err(fault) => tell_denial(rt, fault)?,
     }

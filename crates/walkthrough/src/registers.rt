@@ -21,7 +21,7 @@ pub fn tell_held<R: Register>(rt: &HostRuntime, register: &R) -> anyhow::Result<
 }
 
 fn tell_raise(rt: &HostRuntime, level: i32, answer: Result<(), Fault>) -> anyhow::Result<()> {
-    let level = Cents(level as i64);
+    let level = Cents(level.into());
     println!(rt; "The level is to be raised to {level}.")?;
     match answer {
         Ok(()) => println!(rt; "  granted")?,
@@ -32,10 +32,10 @@ fn tell_raise(rt: &HostRuntime, level: i32, answer: Result<(), Fault>) -> anyhow
 
 pub fn tell(rt: &HostRuntime) -> anyhow::Result<()> {
     println!(rt; "The register file of the day is opened.")?;
-    let mut file = RegisterFile::closed();
-    if let Err(fault) = file.open(&plant::REGISTER) {
-        return tell_denial(rt, fault);
-    }
+    let file = match RegisterFile::new(&plant::REGISTER) {
+        Ok(file) => file,
+        Err(fault) => return tell_denial(rt, fault),
+    };
     tell_day(rt, &file.day())?;
     tell_held(rt, &file)?;
     let mut layer = Raised::new(file);

@@ -1,8 +1,8 @@
 -- Bit maps: a map and the bits that stand in it determine each other. Assumes nothing.
-use Rattle.std.proofs.Common.{◌≡◌, ℕ, zero, suc, ◌+◌, ◌*◌, ◌/◌, ◌%◌, ◌^◌, ◌<◌, ◌≤◌, Bool, true, false, cond, eqb, ◌⊎◌, List, [], ◌∷◌, length, get_or, sym, refl, ap, ◌∙◌, inl, inr, arith}
+use Rattle.std.proofs.Common.{◌≡◌, ℕ, zero, suc, ◌+◌, ◌*◌, ◌/◌, ◌%◌, ◌^◌, ◌<◌, ◌≤◌, Bool, true, false, cond, eqb, List, [], ◌∷◌, length, get_or, sym, refl, ap, ◌∙◌, inl, inr, arith}
 use native.Mathlib.Nat.{zero-div, div-eq_of_lt, pow-succ', div-div-eq-div-mul, pow-le-pow_right}
 use lib.Bits.{bit_and, and_mask}
-use Rattle.std.proofs.lemmas.Bool.{cases_lt, lt-ltb, le-ltb}
+use Rattle.std.proofs.lemmas.Bool.{cases_lt, lt-ltb, le-ltb, ne_eqb}
 use Rattle.std.proofs.lemmas.Nat.{le-div, pow_pos}
 use Rattle.wire.specs.Reading.{is_map}
 use Rattle.wire.specs.Maps.{stands, map_of}
@@ -60,23 +60,20 @@ map_of_bits (suc n) map h =
     let less : map / 2 < 2 ^ n = omega (arith, pow-succ' 2 n) in
     ap (λ l. cond (stands 0 map) 1 0 + 2 * map_of l) (bits_above 0 n map) ∙ ap (λ m. cond (stands 0 map) 1 0 + 2 * m) (map_of_bits n (map / 2) less) ∙ lowest_bit map
 
--- a bit stands above the last one that has a meaning exactly when something is left of the map past it
-pub map_unknown : (last map : ℕ) → (map / 2 ^ (last + 1) ≡ 0 → ⊥) → is_map last map ≡ false
-map_unknown last map h = elim (cases_lt map (2 ^ (last + 1))) [
-  | inl below ↦ absurd (h (div-eq_of_lt below))
-  | inr above ↦ le-ltb map (2 ^ (last + 1)) above
-]
-
-pub map_known : (last map : ℕ) → map < 65536 → (15 ≤ last) ⊎ ((last < 15) × (map / 2 ^ (last + 1) ≡ 0)) → is_map last map ≡ true
-map_known last map small (inl h) =
-    let top : 65536 ≤ 2 ^ (last + 1) = pow-le-pow_right {n = 2} (omega arith) {i = 16} {j = last + 1} (omega arith) in
-    lt-ltb map (2 ^ (last + 1)) (omega arith)
-map_known last map small (inr h) = elim (cases_lt map (2 ^ (last + 1))) [
-  | inl below ↦ lt-ltb map (2 ^ (last + 1)) below
+-- no bit stands above the last one that has a meaning exactly when nothing is left of the map past it
+pub map_tested : (last map : ℕ) → eqb (map / 2 ^ (last + 1)) 0 ≡ is_map last map
+map_tested last map = elim (cases_lt map (2 ^ (last + 1))) [
+  | inl below ↦ ap (λ q. eqb q 0) (div-eq_of_lt below) ∙ sym (lt-ltb map (2 ^ (last + 1)) below)
   | inr above ↦ (
       let some : 0 < map / 2 ^ (last + 1) = le-div 1 map (2 ^ (last + 1)) (pow_pos (last + 1)) (omega arith) in
-      absurd (omega (arith, h.1)))
+      ne_eqb _ _ (λ e. omega arith) ∙ sym (le-ltb map (2 ^ (last + 1)) above))
 ]
+
+-- where every bit has a meaning, no map has another
+pub map_whole : (last map : ℕ) → map < 65536 → 15 ≤ last → true ≡ is_map last map
+map_whole last map small all =
+    let top : 65536 ≤ 2 ^ (last + 1) = pow-le-pow_right {n = 2} (omega arith) {i = 16} {j = last + 1} (omega arith) in
+    sym (lt-ltb map (2 ^ (last + 1)) (omega arith))
 
 pub map_of_lt : (bs : List Bool) → map_of bs < 2 ^ length bs
 map_of_lt [] = omega arith

@@ -1,7 +1,9 @@
 pub mod Bytes
 pub mod Maps
 pub mod Reading
+pub mod Reads
 pub mod Writing
+pub mod Writes
 pub mod Rows
 pub mod Laws
 pub mod Undone
@@ -9,3 +11,4 @@ pub mod Lawful
 pub mod Numbers
 pub mod Steps
 pub mod Laid
+pub mod CountedRows

@@ -21,6 +21,10 @@ place_of at = min at 4294967295
 abbrev pub fault_at : RecordFault → ℕ → Fault
 fault_at f at = Record f (place_of at)
 
+-- the next n bytes; they are cut short where the bytes end before the last one
+abbrev pub array_at : ℕ → List ℕ → ℕ → Read (List ℕ)
+array_at n bytes at = cond (nat_le n (length bytes - at)) (Ok (take n (drop at bytes), at + n)) (Err (fault_at CutShort (length bytes)))
+
 -- a number of n bytes; it is cut short where the bytes end before its last one
 abbrev pub number_at : ℕ → List ℕ → ℕ → Read ℕ
 number_at n bytes at = cond (nat_le n (length bytes - at)) (Ok (big_endian (take n (drop at bytes)), at + n)) (Err (fault_at CutShort (length bytes)))

@@ -8,11 +8,13 @@ pub mod counted;
 pub mod field;
 pub mod laws;
 pub mod quantity;
-pub mod reading;
-pub mod writing;
+pub mod reader;
+pub mod writer;
 
 pub use counted::Counted;
 pub use field::{Field, Row};
+pub use reader::Reader;
+pub use writer::Writer;
 
 // Whether a bit stands in a map, bit 0 being the lowest.
 pub fn stands_in(map: u16, bit: u32) -> bool

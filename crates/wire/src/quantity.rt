@@ -6,8 +6,8 @@ ghost use Rattle.wire.specs.Lawful.{quantity_lawful};
 ghost use Rattle.wire.specs.Laid.{puts_bytes};
 
 use crate::field::Field;
-use crate::reading::quantity_at;
-use crate::writing::put_long;
+use crate::reader::Reader;
+use crate::writer::Writer;
 use faults::Fault;
 
 impl Field for u32 {
@@ -25,11 +25,15 @@ impl Field for u32 {
 
     ghost puts = { λ v. puts_bytes (long_bytes v) };
 
-    fn read(bytes: &[u8], at: usize) -> Result<(u32, usize), Fault> {
-        quantity_at(bytes, at)
+    fn read(reader: &mut Reader) -> Result<u32, Fault> {
+        reader.quantity()
     }
 
-    fn write(&self, out: &mut [u8], at: usize) -> Result<usize, Fault> {
-        put_long(*self, out, at)
+    fn write(&self, writer: &mut Writer) -> Result<(), Fault> {
+        writer.long(*self)
+    }
+
+    fn length(&self) -> usize {
+        4
     }
 }

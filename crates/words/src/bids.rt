@@ -6,16 +6,10 @@ use std::io;
 fn tell_curve(rt: &impl Print, curve: &Curve) -> io::Result<()> {
     let start = Mw(curve.start);
     println!(rt; "  energy curve from {start} MW:")?;
-    for (i, step) in curve
-        .steps
-        .rows
-        .iter()
-        .take(curve.steps.count as usize)
-        .enumerate()
-    {
-        let number = i.saturating_add(1);
+    for (i, step) in curve.steps.standing().iter().enumerate() {
+        let number = i + 1;
         let end = Mw(step.end);
-        let price = Cents(step.price as i64);
+        let price = Cents(step.price.into());
         println!(rt; "    step {number}: to {end} MW at {price} a MWh")?;
     }
     Ok(())
@@ -24,28 +18,23 @@ fn tell_curve(rt: &impl Print, curve: &Curve) -> io::Result<()> {
 fn tell_service(rt: &impl Print, name: &str, service: &Option<Service>) -> io::Result<()> {
     if let Some(service) = service {
         let quantity = Mw(service.quantity);
-        let price = Cents(service.price as i64);
+        let price = Cents(service.price.into());
         println!(rt; "  {name}: {quantity} MW at {price} a MW")?;
     }
     Ok(())
 }
 
 fn tell_start_up(rt: &impl Print, start_up: &StartUp) -> io::Result<()> {
-    for pair in start_up
-        .pairs
-        .rows
-        .iter()
-        .take(start_up.pairs.count as usize)
-    {
+    for pair in start_up.pairs.standing() {
         let down_time = pair.down_time;
-        let cost = Cents(pair.cost as i64);
+        let cost = Cents(pair.cost.into());
         println!(rt; "  start-up after {down_time} minutes down: {cost}")?;
     }
     Ok(())
 }
 
 fn tell_ramp(rt: &impl Print, ramp: &Ramp) -> io::Result<()> {
-    for pair in ramp.pairs.rows.iter().take(ramp.pairs.count as usize) {
+    for pair in ramp.pairs.standing() {
         let level = Mw(pair.level);
         let rate = Mw(pair.rate);
         println!(rt; "  ramp from {level} MW on: {rate} MW a minute")?;

@@ -5,10 +5,10 @@ use std::io;
 
 pub fn tell_day(rt: &impl Print, day: &Day) -> io::Result<()> {
     let hours = day.hours;
-    let floor = Cents(day.floor as i64);
-    let soft = Cents(day.soft_cap as i64);
-    let hard = Cents(day.hard_cap as i64);
-    let service = Cents(day.service_cap as i64);
+    let floor = Cents(day.floor.into());
+    let soft = Cents(day.soft_cap.into());
+    let hard = Cents(day.hard_cap.into());
+    let service = Cents(day.service_cap.into());
     println!(rt;
         "  a day of {hours} hours: floor {floor}, soft cap {soft}, hard cap {hard}, service cap {service}"
     )
@@ -21,12 +21,12 @@ fn tell_regulation(rt: &impl Print, name: &str, regulation: &Regulation) -> io::
 }
 
 fn tell_limits(rt: &impl Print, card: &Card) -> io::Result<()> {
-    for pair in card.start_up.rows.iter().take(card.start_up.count as usize) {
+    for pair in card.start_up.standing() {
         let down_time = pair.down_time;
-        let highest = Cents(pair.highest as i64);
+        let highest = Cents(pair.highest.into());
         println!(rt; "    start-up after {down_time} minutes down: at most {highest}")?;
     }
-    for row in card.ramp.rows.iter().take(card.ramp.count as usize) {
+    for row in card.ramp.standing() {
         let level = Mw(row.level);
         let lowest = Mw(row.lowest);
         let highest = Mw(row.highest);
@@ -41,7 +41,7 @@ pub fn tell_card(rt: &impl Print, resource: u16, card: &Card) -> io::Result<()> 
     let pmin = Mw(card.pmin);
     let pmax = Mw(card.pmax);
     println!(rt; "  resource {resource} of coordinator {owner}: {pmin} to {pmax} MW")?;
-    let level = Cents(card.level as i64);
+    let level = Cents(card.level.into());
     println!(rt; "    reference level {level} a MWh")?;
     tell_regulation(rt, "Regulation Up", &card.up)?;
     tell_regulation(rt, "Regulation Down", &card.down)?;

@@ -1,7 +1,9 @@
 // Worked examples: each printed with what is expected and what was found; any difference ends the program with an error.
 #![tactic(auto)]
 
-use anyhow::anyhow;
+use anyhow::ensure;
+use faults::Fault;
+use std::fmt;
 
 mod bids;
 mod plant;
@@ -17,6 +19,43 @@ pub struct Verdict {
     pub length: usize,
 }
 
+// Granted, with no marks and nothing written.
+pub const GRANTED: Verdict = Verdict {
+    number: 0,
+    layer: 0,
+    place: 0,
+    marks: 0,
+    length: 0,
+};
+
+impl From<Fault> for Verdict {
+    fn from(fault: Fault) -> Verdict {
+        let answer = fault.answer();
+        Verdict {
+            number: answer.number,
+            layer: answer.layer,
+            place: answer.place,
+            ..GRANTED
+        }
+    }
+}
+
+impl fmt::Display for Verdict {
+    fn fmt<W: fmt::Write>(&self, f: &mut fmt::Formatter<W>) -> fmt::Result {
+        let Verdict {
+            number,
+            layer,
+            place,
+            marks,
+            length,
+        } = *self;
+        write!(
+            f,
+            "number {number}, layer {layer}, place {place}, marks {marks}, length {length}"
+        )
+    }
+}
+
 // Prints an example, and tells whether it came out as expected.
 pub fn compare(
     rt: &HostRuntime,
@@ -27,31 +66,17 @@ pub fn compare(
     let agrees = expected == found;
     let word = if agrees { "agrees" } else { "DIFFERS" };
     println!(rt; "{example}: {word}")?;
-    tell(rt, "expected", expected)?;
-    tell(rt, "found", found)?;
+    println!(rt; "  expected: {expected}")?;
+    println!(rt; "  found: {found}")?;
     Ok(agrees)
-}
-
-fn tell(rt: &HostRuntime, which: &str, verdict: Verdict) -> anyhow::Result<()> {
-    let number = verdict.number;
-    let layer = verdict.layer;
-    let place = verdict.place;
-    let marks = verdict.marks;
-    let length = verdict.length;
-    println!(rt;
-        "  {which}: number {number}, layer {layer}, place {place}, marks {marks}, length {length}"
-    )?;
-    Ok(())
 }
 
 fn run(rt: &HostRuntime) -> anyhow::Result<()> {
     let raises = raises::examples(rt)?;
     let bids = bids::examples(rt)?;
-    if raises && bids {
-        println!(rt; "All examples agree.")?;
-        return Ok(());
-    }
-    Err(anyhow!("an example differs"))
+    ensure!(raises && bids, "an example differs");
+    println!(rt; "All examples agree.")?;
+    Ok(())
 }
 
 fn main(rt: HostRuntime) -> anyhow::Result<()> {

@@ -11,17 +11,19 @@ pub const DAY: Day = Day {
 
 // Resource 7 of owner 3, at a level of 120,000 cents.
 pub fn card() -> NumberedCard {
-    let mut card = Card::blank();
-    card.owner = 3;
-    card.pmin = 2_000;
-    card.pmax = 10_000;
-    card.up = Regulation {
-        certified: 1_500,
-        award: 500,
+    let card = Card {
+        owner: 3,
+        pmin: 2_000,
+        pmax: 10_000,
+        up: Regulation {
+            certified: 1_500,
+            award: 500,
+        },
+        spinning: 2_000,
+        non_spinning: 1_000,
+        regulation_limit: 9_000,
+        level: 120_000,
+        ..Card::blank()
     };
-    card.spinning = 2_000;
-    card.non_spinning = 1_000;
-    card.regulation_limit = 9_000;
-    card.level = 120_000;
     NumberedCard { resource: 7, card }
 }

@@ -7,9 +7,9 @@ use Rattle.bid.specs.Record.{presences, services_bytes, record_bytes}
 use Rattle.bid.proofs.RecordLaws.{joined_length}
 use Rattle.bid.proofs.record.record_length.Goals as goal
 
-pub returns : goal.returns
+pub returns-clause-value : goal.returns-clause-value
 unfolding record_bytes
-returns c =
+returns-clause-value c =
     let v = c.args.components.now in
     let whole = joined_length (word_bytes v.resource) (byte_bytes v.hour) (word_bytes (map_of (presences v))) (optional_bytes long_bytes v.self_schedule) (optional_bytes curve_bytes v.curve) (services_bytes v.services) (optional_bytes start_up_bytes v.start_up) (optional_bytes ramp_bytes v.ramp) in
-    record { value = omega arith; bound = omega arith }
+    omega arith

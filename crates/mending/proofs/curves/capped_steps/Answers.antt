@@ -1,8 +1,6 @@
-use Rattle.std.proofs.Common.{◌≡◌, ◌<◌, ◌≤◌, [], ◌∷◌, ◌++◌, map, length, take, sym, ap, ◌∙◌, arith, length-set, w32, to_z, of_z}
-use Rattle.std.proofs.lemmas.List.{take_more_set, map_more, take_all}
-use Rattle.std.proofs.lemmas.Int.{to_z-of_z}
-use Rattle.wire.specs.Rows.{packed}
-use Rattle.wire.proofs.Rows.{blank_more, all_rows}
+use Rattle.std.proofs.Common.{◌<◌, [], ◌∷◌, ◌++◌, map, length, take, sym, ap, ◌∙◌, arith, length-set, w32, to_z, of_z}
+use Rattle.std.proofs.lemmas.List.{take_more_set, map_more}
+use Rattle.wire.proofs.Rows.{blank_more}
 use Rattle.bid.specs.Fields.{blank_step, step_at}
 use Rattle.mending.specs.Mending.{capped_step}
 use Rattle.mending.proofs.curves.capped_steps.Goals as goal
@@ -10,7 +8,7 @@ use Rattle.mending.proofs.curves.capped_steps.Goals as goal
 pub loop-i-preserved : goal.loop-i-preserved
 loop-i-preserved c =
     let i = c.loop-i.i in
-    let steps = c.args.steps.now in
+    let steps = c.standing-steps.result.now in
     let lt : i < length steps = omega arith in
     let inside : i < length c.loop-i.rows = omega arith in (
       length-set _ _ _ ∙ c.loop-i.invariant.0,
@@ -20,13 +18,3 @@ loop-i-preserved c =
           ∙ ap (λ s. map (capped_step (to_z w32 (of_z w32 c.args.limit))) (take i steps) ++ s ∷ []) c.capped_step.ensures
           ∙ sym (map_more (capped_step (to_z w32 (of_z w32 c.args.limit))) steps i blank_step lt),
     )
-
-pub returns : goal.returns
-returns c =
-    let i = c.loop-i.i in
-    let steps = c.args.steps.now in
-    let within : i ≤ length c.loop-i.rows = omega arith in
-    let done : length steps ≡ i = omega arith in
-    let same = to_z-of_z w32 c.args.limit c.ranges.limit in
-    all_rows blank_step step_at 10 c.loop-i.rows (length steps) i done within c.loop-i.invariant.1
-    ∙ ap (packed blank_step 10) (c.loop-i.invariant.2 ∙ ap (λ z. map (capped_step z) (take i steps)) same ∙ ap (map (capped_step c.args.limit)) (take_all i steps (omega arith)))

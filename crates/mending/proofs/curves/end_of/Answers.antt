@@ -1,12 +1,9 @@
-use Rattle.std.proofs.Common.{length, sym, ap, ◌∙◌, arith}
-use Rattle.std.proofs.lemmas.List.{nil_from_length}
-use Rattle.std.proofs.lemmas.Bool.{eqb-true, eqb-false}
-use Rattle.checks.specs.Terms.{end_of}
-use Rattle.mending.proofs.Steps.{end_last}
+use Rattle.std.proofs.Common.{◌≡◌, ap, ◌∙◌, rules}
+use Rattle.std.specs.Option.{option_copied, option_map_or}
+use Rattle.mending.proofs.Steps.{last_end}
 use Rattle.mending.proofs.curves.end_of.Goals as goal
 
-pub returns-then-is_empty : goal.returns-then-is_empty
-returns-then-is_empty c = sym (ap (end_of c.args.start) (nil_from_length c.args.steps.now (eqb-true (length c.args.steps.now) 0 (sym c.is_empty.ensures ∙ c.if-is_empty.true))))
-
-pub returns-else-is_empty : goal.returns-else-is_empty
-returns-else-is_empty c = (let some = eqb-false (length c.args.steps.now) 0 (sym c.is_empty.ensures ∙ c.if-is_empty.false) in end_last c.args.start c.args.steps.now (omega arith))
+pub returns : goal.returns
+returns c =
+    let e : c.map_or.result ≡ option_map_or (λ s. s.end) (option_copied c.last.result) c.args.start = search rules in
+    e ∙ ap (λ o. option_map_or (λ s. s.end) o c.args.start) c.last.ensures.value ∙ last_end c.args.start c.args.steps.now

@@ -1,14 +1,10 @@
-use Rattle.std.proofs.Common.{ap, ◌∙◌, arith}
-use Rattle.mending.specs.Marks.{mark, marks}
+use Rattle.mending.specs.Marks.{marks}
+use Rattle.mending.proofs.Same.{services_equal}
 use Rattle.mending.proofs.marking.marks.Goals as goal
 
 pub returns : goal.returns
 unfolding marks
 returns c =
-    let m₁ = c.mark.ensures.value ∙ ap (mark 1) c.curve_prices.ensures in
-    let m₂ = c.mark-2.ensures.value ∙ ap (mark 2) c.same_quantities.ensures in
-    let m₃ = c.mark-3.ensures.value ∙ ap (mark 4) c.same_service.ensures in
-    let m₄ = c.mark-4.ensures.value ∙ ap (mark 8) c.same_service-2.ensures in
-    let m₅ = c.mark-5.ensures.value ∙ ap (mark 16) c.same_service-3.ensures in
-    let m₆ = c.mark-6.ensures.value ∙ ap (mark 32) c.same_service-4.ensures in
-    omega arith
+    let f = c.args.filed.now.services in
+    let r = c.args.row.now.services in
+    cc (services_equal f.spinning r.spinning, services_equal f.non_spinning r.non_spinning, services_equal f.regulation_up r.regulation_up, services_equal f.regulation_down r.regulation_down)

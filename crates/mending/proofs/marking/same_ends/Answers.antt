@@ -1,24 +1,16 @@
-use Rattle.std.proofs.Common.{◌<◌, ◌≤◌, eqb, [], length, drop, sym, refl, ap, ◌∙◌, arith}
-use Rattle.std.proofs.lemmas.List.{drop_all}
-use Rattle.std.proofs.lemmas.Bool.{eq-eqb, ne_eqb}
-use Rattle.mending.specs.Marks.{same_ends}
-use Rattle.mending.proofs.Same.{other_count, same_more, same_ends_lem}
+use Rattle.std.proofs.Common.{rules, tests, eqb, ◌∙◌}
+use Rattle.std.proofs.lemmas.Bool.{ne_eqb}
+use Rattle.std.proofs.lemmas.Iterator.{YieldsList-from_slice, YieldsList-from_zip}
+use Rattle.std.proofs.lemmas.Iterator.Search.{all_from_yields_List}
+use Rattle.mending.proofs.Same.{other_count, ends_beside}
 use Rattle.mending.proofs.marking.same_ends.Goals as goal
 
-pub returns-then-row-filed : goal.returns-then-row-filed
-returns-then-row-filed c = other_count c.args.filed.now c.args.row.now c.if-row-filed.true
+pub returns-then-filed-row : goal.returns-then-filed-row
+returns-then-filed-row c =
+    let f = c.args.filed.now in
+    let r = c.args.row.now in
+    all_from_yields_List (λ p. eqb p.0.end p.1.end) c.all.new.self _ _ c.all.ensures.ran (YieldsList-from_zip (YieldsList-from_slice f cc) (YieldsList-from_slice r cc)) (λ x b q k. search (rules, tests))
+    ∙ ends_beside f r c.if-filed-row.true
 
-pub returns-then-filed-i : goal.returns-then-filed-i
-returns-then-filed-i c =
-    let k : c.loop-i.i < length c.args.row.now = omega arith in
-    same_ends_lem (λ s t. eqb s.end t.end) same_ends (λ s t ss ts. refl) c.args.filed.now c.args.row.now c.loop-i.i c.loop-i-test.true k (ne_eqb _ _ c.if-filed-i.true) ∙ c.loop-i.invariant
-
-pub loop-i-preserved : goal.loop-i-preserved
-loop-i-preserved c =
-    let k : c.loop-i.i < length c.args.row.now = omega arith in
-    same_more (λ s t. eqb s.end t.end) same_ends (λ s t ss ts. refl) c.args.filed.now c.args.row.now c.loop-i.i c.loop-i-test.true k (eq-eqb _ _ c.if-filed-i.false) ∙ c.loop-i.invariant
-
-pub returns : goal.returns
-returns c =
-    let far : length c.args.row.now ≤ c.loop-i.i = omega arith in
-    sym (ap (λ l. same_ends l (drop c.loop-i.i c.args.row.now)) (drop_all c.loop-i.i c.args.filed.now c.loop-i-test.false) ∙ ap (same_ends []) (drop_all c.loop-i.i c.args.row.now far)) ∙ c.loop-i.invariant
+pub returns-else-filed-row : goal.returns-else-filed-row
+returns-else-filed-row c = ne_eqb _ _ c.if-filed-row.false ∙ other_count c.args.filed.now c.args.row.now c.if-filed-row.false

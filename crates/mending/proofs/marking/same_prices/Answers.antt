@@ -1,21 +1,17 @@
-use Rattle.std.proofs.Common.{◌<◌, length, drop, sym, refl, ap, ◌∙◌, arith}
-use Rattle.std.proofs.lemmas.List.{drop_all}
-use Rattle.mending.specs.Marks.{same_price, same_prices}
-use Rattle.mending.proofs.Same.{fewer_prices, same_more, same_ends_lem}
+use Rattle.std.proofs.Common.{rules, tests, ◌∙◌}
+use Rattle.std.proofs.lemmas.Bool.{lt-leb}
+use Rattle.std.proofs.lemmas.Iterator.{YieldsList-from_slice, YieldsList-from_zip}
+use Rattle.std.proofs.lemmas.Iterator.Search.{all_from_yields_List}
+use Rattle.mending.specs.Marks.{same_price}
+use Rattle.mending.proofs.Same.{fewer_prices, prices_beside}
 use Rattle.mending.proofs.marking.same_prices.Goals as goal
 
-pub returns-then-row-filed : goal.returns-then-row-filed
-returns-then-row-filed c = fewer_prices c.args.filed.now c.args.row.now c.if-row-filed.true
+pub returns-then-filed-row : goal.returns-then-filed-row
+returns-then-filed-row c =
+    let f = c.args.filed.now in
+    let r = c.args.row.now in
+    all_from_yields_List (λ p. same_price p.0.price p.1.price) c.all.new.self _ _ c.all.ensures.ran (YieldsList-from_zip (YieldsList-from_slice f cc) (YieldsList-from_slice r cc)) (λ x b q k. search (rules, tests))
+    ∙ prices_beside f r c.if-filed-row.true
 
-pub returns-then-not-same_step_price : goal.returns-then-not-same_step_price
-returns-then-not-same_step_price c =
-    let k : c.loop-i.i < length c.args.row.now = omega arith in
-    same_ends_lem (λ s t. same_price s.price t.price) same_prices (λ s t ss ts. refl) c.args.filed.now c.args.row.now c.loop-i.i c.loop-i-test.true k (sym c.same_step_price.ensures ∙ c.if-not-same_step_price.true) ∙ c.loop-i.invariant
-
-pub loop-i-preserved : goal.loop-i-preserved
-loop-i-preserved c =
-    let k : c.loop-i.i < length c.args.row.now = omega arith in
-    same_more (λ s t. same_price s.price t.price) same_prices (λ s t ss ts. refl) c.args.filed.now c.args.row.now c.loop-i.i c.loop-i-test.true k (sym c.same_step_price.ensures ∙ c.if-not-same_step_price.false) ∙ c.loop-i.invariant
-
-pub returns : goal.returns
-returns c = sym (ap (λ l. same_prices l (drop c.loop-i.i c.args.row.now)) (drop_all c.loop-i.i c.args.filed.now c.loop-i-test.false)) ∙ c.loop-i.invariant
+pub returns-else-filed-row : goal.returns-else-filed-row
+returns-else-filed-row c = lt-leb _ _ c.if-filed-row.false ∙ fewer_prices c.args.filed.now c.args.row.now c.if-filed-row.false

@@ -18,9 +18,9 @@ overflow_add-result c =
     let is = to_end bytes at c.word_or_zero-map.result c.fixed_length.result c.rows_length.result c.word_or_zero-map.ensures c.fixed_length.ensures.value c.rows_length.ensures c.rows_length-2.result c.rows_length-2.ensures in
     omega (arith, (skips bytes at (lent_bytes bytes c.type_inv.bytes) c.requires).1)
 
-pub returns : goal.returns
-returns c =
+pub returns-clause-end : goal.returns-clause-end
+returns-clause-end c =
     let bytes = c.args.bytes.now in
     let at = c.args.at in
     let is = to_end bytes at c.word_or_zero-map.result c.fixed_length.result c.rows_length.result c.word_or_zero-map.ensures c.fixed_length.ensures.value c.rows_length.ensures c.rows_length-2.result c.rows_length-2.ensures in
-    record { end = (skips bytes at (lent_bytes bytes c.type_inv.bytes) c.requires).0 ∙ ap Ok (sym is); value = is }
+    (skips bytes at (lent_bytes bytes c.type_inv.bytes) c.requires).0 ∙ ap Ok (sym is)

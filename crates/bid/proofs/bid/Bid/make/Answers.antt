@@ -1,4 +1,4 @@
-use Rattle.std.proofs.Common.{◌≡◌, ◌-◌, ◌≤◌, length, take, replicate, sym, ap, ◌∙◌, arith, rules}
+use Rattle.std.proofs.Common.{◌≡◌, ◌≤◌, length, take, replicate, sym, ap, ◌∙◌, arith}
 use Rattle.std.proofs.lemmas.List.{take_at}
 use Rattle.wire.specs.Steps.{ok_not_err}
 use Rattle.bid.specs.Record.{record_bytes, record_read}
@@ -12,19 +12,10 @@ returns-in_err-put_record c =
     let f = put_front v (replicate 178 0) room in
     absurd (ok_not_err _ _ (sym (c.in_err-put_record.ensures.answer ∙ ap (λ w. w.0) f)))
 
-pub slice_bounds-read-end : goal.slice_bounds-read-end
-slice_bounds-read-end c =
-    let v = c.args.components.now in
-    let room : length (record_bytes v) ≤ 178 = omega arith in
-    let f = put_front v (replicate 178 0) room in
-    let h = c.record_length-length.ensures.bound in
-    let long = c.put_record.auto.out in
-    search rules
-
 pub returns : goal.returns
 returns c =
     let v = c.args.components.now in
     let room : length (record_bytes v) ≤ 178 = omega arith in
     let f = put_front v (replicate 178 0) room in
-    let n : length (record_bytes v) ≡ c.record_length-length.result - 0 = omega arith in
-    c.read.ensures.value ∙ ap (λ l. record_read (take (c.record_length-length.result - 0) l)) (c.put_record.ensures.memory ∙ ap (λ w. w.1) f) ∙ ap record_read (take_at (record_bytes v) _ _ n)
+    let n : length (record_bytes v) ≡ c.record_length-length.result = omega arith in
+    c.read.ensures.value ∙ ap (λ l. record_read (take c.record_length-length.result l)) (c.put_record.ensures.memory ∙ ap (λ w. w.1) f) ∙ ap record_read (take_at (record_bytes v) _ _ n)

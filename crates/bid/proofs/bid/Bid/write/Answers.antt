@@ -1,15 +1,14 @@
-use Rattle.std.proofs.Common.{◌<◌, ◌≤◌, length, take, sym, ap, ◌∙◌, arith}
-use Rattle.wire.specs.Steps.{ok_not_err, ok_same}
+use Rattle.std.proofs.Common.{◌≤◌, length, take, sym, ap, ◌∙◌, arith}
+use Rattle.wire.specs.Steps.{ok_same}
 use Rattle.bid.specs.Record.{record_bytes, record_read}
 use Rattle.bid.proofs.Told.{put_front, written_fits, written_short, front_restores, written_within}
 use Rattle.bid.proofs.bid.Bid.write.Goals as goal
 
-pub returns-then-out-length : goal.returns-then-out-length
-returns-then-out-length c =
-    let v = c.args.self.now.components in
-    let short : length c.args.out.now < length (record_bytes v) = omega arith in
-    let e = written_short v c.args.out.now short in
-    record { answer = sym (ap (λ w. w.0) e); memory = sym (ap (λ w. w.1) e); within = tt; restores = λ n h. absurd (ok_not_err _ _ (sym h)) }
+pub returns-then-out-length-clause-answer : goal.returns-then-out-length-clause-answer
+returns-then-out-length-clause-answer c = sym (ap (λ w. w.0) (written_short c.args.self.now.components c.args.out.now (omega arith)))
+
+pub returns-then-out-length-clause-memory : goal.returns-then-out-length-clause-memory
+returns-then-out-length-clause-memory c = sym (ap (λ w. w.1) (written_short c.args.self.now.components c.args.out.now (omega arith)))
 
 pub returns : goal.returns
 returns c =

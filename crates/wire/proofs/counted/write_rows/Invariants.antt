@@ -1,0 +1,9 @@
+use Rattle.std.proofs.Common.{◌≡◌, drop}
+use Rattle.wire.specs.Writing.{rows_put}
+use Rattle.wire.proofs.counted.write_rows.Given as goal
+
+-- what is left to write, from here, gives what the whole writing gives
+abbrev pub invariant-loop-row : goal.invariant-loop-row
+invariant-loop-row g l =
+    (l.writer.out.ghost_name ≡ l.initial.writer.out.ghost_name)
+    × (rows_put g.T.Field.put (drop l.row-index l.rows) l.writer.out.now l.writer.at ≡ rows_put g.T.Field.put l.rows l.initial.writer.out.now l.initial.writer.at)

@@ -1,0 +1,75 @@
+// Writing one field after another into lent memory; what does not fit is refused, with nothing of it written.
+ghost use Rattle.std.specs.Prelude.{◌≡◌};
+ghost use Rattle.wire.specs.Bytes.{byte_bytes, word_bytes, long_bytes, signed_bytes};
+ghost use Rattle.wire.specs.Rows.{optional_put};
+ghost use Rattle.wire.specs.Writing.{put_at};
+ghost use Rattle.wire.specs.Writes.{Writes};
+
+use crate::field::Field;
+use faults::{Fault, WindowFault};
+
+// Lent memory, and the place from which it is written on.
+#[derive(Drop)]
+pub struct Writer<'a> {
+    pub out: &'a mut [u8],
+    pub at: usize,
+}
+
+impl<'a> Writer<'a> {
+    // Writes from the front on.
+    pub fn new(out: &'a mut [u8]) -> Writer<'a>
+        ensures same { result.out.ghost_name ≡ out.entry.ghost_name }
+        ensures memory { result.out.now ≡ out.old }
+        ensures place { result.at ≡ 0 }
+    {
+        Writer { out, at: 0 }
+    }
+
+    pub fn bytes(&mut self, bytes: &[u8]) -> Result<(), Fault>
+        ensures { Writes (put_at bytes.now) self.old result self.new }
+    {
+        let out = &mut *self.out;
+        let at = self.at;
+        if at > out.len() || out.len() - at < bytes.len() {
+            return Err(Fault::Window(WindowFault::MemoryTooShort, 0));
+        }
+        let next = at + bytes.len();
+        out[at..next].copy_from_slice(bytes);
+        self.at = next;
+        Ok(())
+    }
+
+    pub fn byte(&mut self, value: u8) -> Result<(), Fault>
+        ensures { Writes (put_at (byte_bytes value)) self.old result self.new }
+    {
+        self.bytes(&[value])
+    }
+
+    pub fn word(&mut self, value: u16) -> Result<(), Fault>
+        ensures { Writes (put_at (word_bytes value)) self.old result self.new }
+    {
+        self.bytes(&value.to_be_bytes())
+    }
+
+    pub fn long(&mut self, value: u32) -> Result<(), Fault>
+        ensures { Writes (put_at (long_bytes value)) self.old result self.new }
+    {
+        self.bytes(&value.to_be_bytes())
+    }
+
+    pub fn signed(&mut self, value: i32) -> Result<(), Fault>
+        ensures { Writes (put_at (signed_bytes value)) self.old result self.new }
+    {
+        self.bytes(&value.to_be_bytes())
+    }
+
+    // A field where there is one, else nothing.
+    pub fn optional<T: Field>(&mut self, value: &Option<T>) -> Result<(), Fault>
+        ensures { Writes (optional_put T.Field.put value.now) self.old result self.new }
+    {
+        match value {
+            Some(value) => value.write(self),
+            None => Ok(()),
+        }
+    }
+}
