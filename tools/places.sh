@@ -19,7 +19,7 @@ point 1b '\(u8, u8, u32|mark\($|mark\([0-9]+|tell_mark\(rt|stands_in\((head\.)?m
 point 1c 'match \(present|None => (None|0|from|Ok\(None\)),|Some\(_\) => \{\}|_ => Ok\(\(\)\),|None => Ok\(\(\)\),'
 point 1d '^ *(pub )?enum '
 # 3 loops over numbers, and `while`
-point 3 'for [a-z_]+ in .*[^[]\.\.=?[^.\]]|while '
+point 3 'for [a-z_]+ in [^[]*\.\.|while '
 # 4a functions that compare, convert or make a blank by hand; 4b printing by hand
 point 4a 'fn (same|answered|told|answer|expected|written|made|changed|blank|closed|denied|refused|verdict)[a-z_]*(<|\()'
 point 4b 'impl fmt::Display'
@@ -31,7 +31,7 @@ point 5c 'day: &Day, card: &Card'
 point 6a '\[[A-Za-z0-9_:()<>, ]+; *[A-Za-z0-9_]+\]'
 point 6b 'Counted \{'
 # 7 a switch on which step to run, function pointers
-point 7 'fn\(|dyn |match \*self'
+point 7 '[^_a-z]fn\(|dyn |match \*self'
 if [ -z "$want" ]; then
     printf '%-3s %4d answers in %d files\n' 8 "$(find crates/*/proofs -mindepth 2 -name Answers.antt -print0 | xargs -0 grep -hE '^pub ' | wc -l)" "$(find crates/*/proofs -mindepth 2 -name Answers.antt | wc -l)"
 fi

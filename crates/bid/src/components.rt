@@ -22,7 +22,7 @@ pub struct Service {
     pub price: i32,
 }
 
-#[derive(Clone, Copy, PartialEq, Eq, Debug)]
+#[derive(Clone, Copy, PartialEq, Eq, Default, Debug)]
 pub struct Services {
     pub regulation_up: Option<Service>,
     pub regulation_down: Option<Service>,
@@ -55,7 +55,7 @@ pub struct Ramp {
 }
 
 // Everything that a bid says; nothing is promised of its numbers.
-#[derive(Clone, Copy, PartialEq, Eq, Debug)]
+#[derive(Clone, Copy, PartialEq, Eq, Default, Debug)]
 pub struct Components {
     pub resource: u16,
     pub hour: u8,

@@ -14,7 +14,7 @@ ghost use Rattle.bid.specs.FieldLaws.{step_lawful, step_puts, step_blanks, servi
 use crate::components::{Curve, Ramp, RampPair, Service, StartUp, StartUpPair, Step};
 use faults::{Fault, RecordFault};
 use wire::reader::fault_at;
-use wire::{Counted, Field, Reader, Row, Writer};
+use wire::{Counted, Field, Measured, OfWidth, Reader, Row, Writer};
 
 // A quantity of at least 1.
 fn service_quantity(reader: &mut Reader) -> Result<u32, Fault>
@@ -53,7 +53,9 @@ impl Field for Step {
         writer.long(self.end)?;
         writer.signed(self.price)
     }
+}
 
+impl Measured for Step {
     fn length(&self) -> usize {
         Step::WIDTH as usize
     }
@@ -64,21 +66,23 @@ impl Row for Step {
 
     ghost is_blank = { is_blank_step };
 
-    ghost WIDTH = { 8 };
-
-    const WIDTH: u8 = 8;
-
     ghost blanks = { step_blanks };
 
     ghost blanked = { refl };
 
-    ghost wide = { λ v. refl };
-
-    ghost narrow = { lit≤ tt };
-
     fn blank() -> Step {
         Step::default()
     }
+}
+
+impl OfWidth for Step {
+    ghost WIDTH = { 8 };
+
+    const WIDTH: u8 = 8;
+
+    ghost wide = { λ v. refl };
+
+    ghost narrow = { lit≤ tt };
 }
 
 impl Field for Service {
@@ -107,7 +111,9 @@ impl Field for Service {
         writer.long(self.quantity)?;
         writer.signed(self.price)
     }
+}
 
+impl Measured for Service {
     fn length(&self) -> usize {
         8
     }
@@ -139,7 +145,9 @@ impl Field for StartUpPair {
         writer.word(self.down_time)?;
         writer.long(self.cost)
     }
+}
 
+impl Measured for StartUpPair {
     fn length(&self) -> usize {
         StartUpPair::WIDTH as usize
     }
@@ -150,21 +158,23 @@ impl Row for StartUpPair {
 
     ghost is_blank = { is_blank_start_up_pair };
 
-    ghost WIDTH = { 6 };
-
-    const WIDTH: u8 = 6;
-
     ghost blanks = { start_up_pair_blanks };
 
     ghost blanked = { refl };
 
-    ghost wide = { λ v. refl };
-
-    ghost narrow = { lit≤ tt };
-
     fn blank() -> StartUpPair {
         StartUpPair::default()
     }
+}
+
+impl OfWidth for StartUpPair {
+    ghost WIDTH = { 6 };
+
+    const WIDTH: u8 = 6;
+
+    ghost wide = { λ v. refl };
+
+    ghost narrow = { lit≤ tt };
 }
 
 impl Field for RampPair {
@@ -193,7 +203,9 @@ impl Field for RampPair {
         writer.long(self.level)?;
         writer.long(self.rate)
     }
+}
 
+impl Measured for RampPair {
     fn length(&self) -> usize {
         RampPair::WIDTH as usize
     }
@@ -204,21 +216,23 @@ impl Row for RampPair {
 
     ghost is_blank = { is_blank_ramp_pair };
 
-    ghost WIDTH = { 8 };
-
-    const WIDTH: u8 = 8;
-
     ghost blanks = { ramp_pair_blanks };
 
     ghost blanked = { refl };
 
-    ghost wide = { λ v. refl };
-
-    ghost narrow = { lit≤ tt };
-
     fn blank() -> RampPair {
         RampPair::default()
     }
+}
+
+impl OfWidth for RampPair {
+    ghost WIDTH = { 8 };
+
+    const WIDTH: u8 = 8;
+
+    ghost wide = { λ v. refl };
+
+    ghost narrow = { lit≤ tt };
 }
 
 impl Field for Curve {
@@ -247,7 +261,9 @@ impl Field for Curve {
         writer.long(self.start)?;
         self.steps.write(writer)
     }
+}
 
+impl Measured for Curve {
     fn length(&self) -> usize {
         4 + self.steps.length()
     }
@@ -277,7 +293,9 @@ impl Field for StartUp {
     fn write(&self, writer: &mut Writer) -> Result<(), Fault> {
         self.pairs.write(writer)
     }
+}
 
+impl Measured for StartUp {
     fn length(&self) -> usize {
         self.pairs.length()
     }
@@ -307,7 +325,9 @@ impl Field for Ramp {
     fn write(&self, writer: &mut Writer) -> Result<(), Fault> {
         self.pairs.write(writer)
     }
+}
 
+impl Measured for Ramp {
     fn length(&self) -> usize {
         self.pairs.length()
     }

@@ -9,7 +9,7 @@ ghost use Rattle.bid.specs.Record.{services_at, record_at, services_bytes, recor
 
 use crate::components::{Components, Services};
 use faults::Fault;
-use wire::{Field, Reader, Writer, stands_in};
+use wire::{Measured, Reader, Writer, stands_in};
 
 // The components that a record's map tells of, the one under the lowest bit first.
 #[derive(Clone, Copy)]
@@ -118,14 +118,11 @@ pub(crate) fn put_record(components: &Components, out: &mut [u8]) -> Result<usiz
 }
 
 // How many bytes a field takes where there is one.
-fn length_of<T: Field>(value: &Option<T>) -> usize
+fn length_of<T: Measured>(value: &Option<T>) -> usize
     ensures value { result ≡ length (optional_bytes T.Field.encoded value.now) }
     ensures bound { result ≤ T.Field.longest }
 {
-    match value {
-        Some(value) => value.length(),
-        None => 0,
-    }
+    value.as_ref().map_or(0, |value| value.length())
 }
 
 fn services_length(services: &Services) -> usize

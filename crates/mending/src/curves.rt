@@ -64,11 +64,9 @@ impl Extension {
     fn curve(&self) -> Curve
         ensures { result ≡ curve_of self.now.from (step_to self.now.target self.now.price ∷ []) }
     {
-        let mut rows = [Step::blank(); 10];
-        rows[0] = self.step();
         Curve {
             start: self.from,
-            steps: Counted { count: 1, rows },
+            steps: Counted::of(&[self.step()]),
         }
     }
 }

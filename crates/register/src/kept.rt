@@ -8,7 +8,8 @@ ghost use Rattle.wire.specs.Rows.{entries};
 
 use crate::data::{Card, Day, NumberedCard, RampLimits, Regulation, StartUpLimit};
 use wire::Counted;
-use wire::reader::{MAX_QUANTITY, is_price};
+use wire::reader::MAX_QUANTITY;
+pub use wire::reader::is_price;
 
 impl Day {
     fn prices_keep(&self) -> bool

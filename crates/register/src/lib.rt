@@ -10,6 +10,6 @@ pub mod row_register;
 mod tidy;
 
 pub use data::{Card, Day, NumberedCard, RampLimits, Regulation, StartUpLimit};
+pub use kept::is_price;
 pub use register::Register;
 pub use row::CardRow;
-pub use wire::reader::is_price;

@@ -8,7 +8,7 @@ ghost use Rattle.register.specs.LimitFields.{limit_lawful, limit_puts, limit_bla
 
 use crate::data::{RampLimits, StartUpLimit};
 use faults::Fault;
-use wire::{Field, Reader, Row, Writer};
+use wire::{Field, Measured, OfWidth, Reader, Row, Writer};
 
 impl Field for StartUpLimit {
     ghost parsed = { limit_at };
@@ -36,7 +36,9 @@ impl Field for StartUpLimit {
         writer.word(self.down_time)?;
         writer.long(self.highest)
     }
+}
 
+impl Measured for StartUpLimit {
     fn length(&self) -> usize {
         StartUpLimit::WIDTH as usize
     }
@@ -47,21 +49,23 @@ impl Row for StartUpLimit {
 
     ghost is_blank = { is_blank_limit };
 
-    ghost WIDTH = { 6 };
-
-    const WIDTH: u8 = 6;
-
     ghost blanks = { limit_blank };
 
     ghost blanked = { refl };
 
-    ghost wide = { λ v. refl };
-
-    ghost narrow = { lit≤ tt };
-
     fn blank() -> StartUpLimit {
         StartUpLimit::default()
     }
+}
+
+impl OfWidth for StartUpLimit {
+    ghost WIDTH = { 6 };
+
+    const WIDTH: u8 = 6;
+
+    ghost wide = { λ v. refl };
+
+    ghost narrow = { lit≤ tt };
 }
 
 impl Field for RampLimits {
@@ -92,7 +96,9 @@ impl Field for RampLimits {
         writer.long(self.lowest)?;
         writer.long(self.highest)
     }
+}
 
+impl Measured for RampLimits {
     fn length(&self) -> usize {
         RampLimits::WIDTH as usize
     }
@@ -103,19 +109,21 @@ impl Row for RampLimits {
 
     ghost is_blank = { is_blank_limits };
 
-    ghost WIDTH = { 12 };
-
-    const WIDTH: u8 = 12;
-
     ghost blanks = { limits_blank };
 
     ghost blanked = { refl };
 
-    ghost wide = { λ v. refl };
-
-    ghost narrow = { lit≤ tt };
-
     fn blank() -> RampLimits {
         RampLimits::default()
     }
+}
+
+impl OfWidth for RampLimits {
+    ghost WIDTH = { 12 };
+
+    const WIDTH: u8 = 12;
+
+    ghost wide = { λ v. refl };
+
+    ghost narrow = { lit≤ tt };
 }

@@ -2,23 +2,14 @@
 use bid::{Components, Curve, Ramp, RampPair, Service, Services, StartUp, StartUpPair, Step};
 use wire::Counted;
 
-const NO_SERVICES: Services = Services {
-    regulation_up: None,
-    regulation_down: None,
-    spinning: None,
-    non_spinning: None,
-};
-
 // Resource 7 in hour 8, with no component.
-const NOTHING: Components = Components {
-    resource: 7,
-    hour: 8,
-    self_schedule: None,
-    curve: None,
-    services: NO_SERVICES,
-    start_up: None,
-    ramp: None,
-};
+fn nothing() -> Components {
+    Components {
+        resource: 7,
+        hour: 8,
+        ..Components::default()
+    }
+}
 
 // Steps from 20.00 MW on.
 fn curve(steps: &[Step]) -> Curve {
@@ -70,11 +61,11 @@ pub fn morning_bid() -> Components {
         curve: Some(curve(&[low, high])),
         services: Services {
             spinning: Some(spinning),
-            ..NO_SERVICES
+            ..Services::default()
         },
         start_up: Some(start_up()),
         ramp: Some(ramp()),
-        ..NOTHING
+        ..nothing()
     }
 }
 
@@ -83,7 +74,7 @@ pub fn schedule_bid(hour: u8, quantity: u32) -> Components {
     Components {
         hour,
         self_schedule: Some(quantity),
-        ..NOTHING
+        ..nothing()
     }
 }
 
@@ -96,6 +87,6 @@ pub fn dear_bid() -> Components {
     Components {
         hour: 10,
         curve: Some(curve(&[dear])),
-        ..NOTHING
+        ..nothing()
     }
 }

@@ -8,7 +8,7 @@ ghost use Rattle.wire.specs.Reads.{Reads};
 ghost use Rattle.wire.specs.Writing.{rows_put};
 ghost use Rattle.wire.specs.Writes.{Writes};
 
-use crate::field::{Field, Row};
+use crate::field::{Field, Measured, OfWidth, Row};
 use crate::reader::Reader;
 use crate::writer::Writer;
 use faults::Fault;
@@ -64,15 +64,6 @@ fn read_rows<T: Row, const N: usize>(count: u8, reader: &mut Reader) -> Result<C
     Ok(Counted { count, rows })
 }
 
-fn write_rows<T: Field>(rows: &[T], writer: &mut Writer) -> Result<(), Fault>
-    ensures { Writes (rows_put T.Field.put rows.now) writer.old result writer.new }
-{
-    for row in rows {
-        row.write(writer)?;
-    }
-    Ok(())
-}
-
 // A count from 1 to N, and that many rows, with blanks behind them; it is written as it stands, with the rows that stand.
 impl<T: Row, const N: usize> Field for Counted<T, N> {
     ghost parsed = { counted_at T.Row.blank T.Field.parsed N };
@@ -95,10 +86,11 @@ impl<T: Row, const N: usize> Field for Counted<T, N> {
     }
 
     fn write(&self, writer: &mut Writer) -> Result<(), Fault> {
-        writer.byte(self.count)?;
-        write_rows(self.standing(), writer)
+        writer.counted(self)
     }
+}
 
+impl<T: OfWidth, const N: usize> Measured for Counted<T, N> {
     fn length(&self) -> usize {
         1 + self.standing().len() * T::WIDTH as usize
     }

@@ -34,26 +34,17 @@ pub trait Field: Copy {
     fn write(&self, writer: &mut Writer) -> Result<(), Fault>
         ensures { Writes (put self.now) writer.old result writer.new };
 
-    // How many bytes it is written in.
-    fn length(&self) -> usize
-        ensures value { result ≡ length (encoded self.now) }
-        ensures bound { result ≤ longest };
-
     ghost lawful: { Lawful parsed encoded held longest };
 
     ghost puts: { (v : Self) → Puts (put v) (encoded v) };
 }
 
-// A field that stands in counted rows, each of the same length.
+// A field that stands in counted rows.
 pub trait Row: Field {
     // what stands in an array behind the rows that count
     ghost blank: { Self };
 
     ghost is_blank: { Self → Bool };
-
-    ghost WIDTH: { ℕ };
-
-    const WIDTH: u8;
 
     fn blank() -> Self
         ensures { result ≡ blank };
@@ -61,6 +52,21 @@ pub trait Row: Field {
     ghost blanks: { (v : Self) → is_blank v ≡ true → v ≡ blank };
 
     ghost blanked: { is_blank blank ≡ true };
+}
+
+// A field that tells its length.
+pub trait Measured: Field {
+    // How many bytes it is written in.
+    fn length(&self) -> usize
+        ensures value { result ≡ length (Self.encoded self.now) }
+        ensures bound { result ≤ Self.longest };
+}
+
+// A row of which each is written in as many bytes.
+pub trait OfWidth: Row {
+    ghost WIDTH: { ℕ };
+
+    const WIDTH: u8;
 
     ghost wide: { (v : Self) → length (Self.encoded v) ≡ WIDTH };
 

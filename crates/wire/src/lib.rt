@@ -12,7 +12,7 @@ pub mod reader;
 pub mod writer;
 
 pub use counted::Counted;
-pub use field::{Field, Row};
+pub use field::{Field, Measured, OfWidth, Row};
 pub use reader::Reader;
 pub use writer::Writer;
 

@@ -5,7 +5,7 @@ ghost use Rattle.wire.specs.Writing.{put_at};
 ghost use Rattle.wire.specs.Lawful.{quantity_lawful};
 ghost use Rattle.wire.specs.Laid.{puts_bytes};
 
-use crate::field::Field;
+use crate::field::{Field, Measured};
 use crate::reader::Reader;
 use crate::writer::Writer;
 use faults::Fault;
@@ -32,7 +32,9 @@ impl Field for u32 {
     fn write(&self, writer: &mut Writer) -> Result<(), Fault> {
         writer.long(*self)
     }
+}
 
+impl Measured for u32 {
     fn length(&self) -> usize {
         4
     }

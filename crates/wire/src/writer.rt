@@ -1,12 +1,22 @@
 // Writing one field after another into lent memory; what does not fit is refused, with nothing of it written.
 ghost use Rattle.std.specs.Prelude.{◌≡◌};
 ghost use Rattle.wire.specs.Bytes.{byte_bytes, word_bytes, long_bytes, signed_bytes};
-ghost use Rattle.wire.specs.Rows.{optional_put};
-ghost use Rattle.wire.specs.Writing.{put_at};
+ghost use Rattle.wire.specs.Rows.{counted_put, optional_put};
+ghost use Rattle.wire.specs.Writing.{put_at, rows_put};
 ghost use Rattle.wire.specs.Writes.{Writes};
 
+use crate::counted::Counted;
 use crate::field::Field;
 use faults::{Fault, WindowFault};
+
+fn write_rows<T: Field>(rows: &[T], writer: &mut Writer) -> Result<(), Fault>
+    ensures { Writes (rows_put T.Field.put rows.now) writer.old result writer.new }
+{
+    for row in rows {
+        row.write(writer)?;
+    }
+    Ok(())
+}
 
 // Lent memory, and the place from which it is written on.
 #[derive(Drop)]
@@ -61,6 +71,17 @@ impl<'a> Writer<'a> {
         ensures { Writes (put_at (signed_bytes value)) self.old result self.new }
     {
         self.bytes(&value.to_be_bytes())
+    }
+
+    // A count as it stands, and the rows that stand.
+    pub fn counted<T: Field, const N: usize>(
+        &mut self,
+        counted: &Counted<T, N>,
+    ) -> Result<(), Fault>
+        ensures { Writes (counted_put T.Field.put counted.now) self.old result self.new }
+    {
+        self.byte(counted.count)?;
+        write_rows(counted.standing(), self)
     }
 
     // A field where there is one, else nothing.

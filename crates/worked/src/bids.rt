@@ -7,32 +7,25 @@ use rules::judge;
 use std::array::from_fn;
 use wire::Counted;
 
-const NO_SERVICES: Services = Services {
-    regulation_up: None,
-    regulation_down: None,
-    spinning: None,
-    non_spinning: None,
-};
-
 // Resource 7 in hour 1, with no component.
-const NOTHING: Components = Components {
-    resource: 7,
-    hour: 1,
-    self_schedule: None,
-    curve: None,
-    services: NO_SERVICES,
-    start_up: None,
-    ramp: None,
-};
+fn nothing() -> Components {
+    Components {
+        resource: 7,
+        hour: 1,
+        ..Components::default()
+    }
+}
 
 // 0.11 MW of Spinning, for nothing.
-const SPINNING_11: Services = Services {
-    spinning: Some(Service {
-        quantity: 11,
-        price: 0,
-    }),
-    ..NO_SERVICES
-};
+fn spinning_11() -> Services {
+    Services {
+        spinning: Some(Service {
+            quantity: 11,
+            price: 0,
+        }),
+        ..Services::default()
+    }
+}
 
 // Two steps from 20.00 MW, to 60.00 and 100.00 MW.
 fn two_steps(first: i32, second: i32) -> Option<Curve> {
@@ -96,7 +89,7 @@ pub fn examples(rt: &HostRuntime) -> anyhow::Result<bool> {
             },
             Components {
                 curve: two_steps(5_000, 5_000),
-                ..NOTHING
+                ..nothing()
             },
         ),
         Example(
@@ -109,7 +102,7 @@ pub fn examples(rt: &HostRuntime) -> anyhow::Result<bool> {
             },
             Components {
                 curve: two_steps(5_000, 4_999),
-                ..NOTHING
+                ..nothing()
             },
         ),
         Example(
@@ -121,8 +114,8 @@ pub fn examples(rt: &HostRuntime) -> anyhow::Result<bool> {
             },
             Components {
                 curve: ten_steps(100_000),
-                services: SPINNING_11,
-                ..NOTHING
+                services: spinning_11(),
+                ..nothing()
             },
         ),
         Example(
@@ -134,8 +127,8 @@ pub fn examples(rt: &HostRuntime) -> anyhow::Result<bool> {
             },
             Components {
                 curve: ten_steps(120_000),
-                services: SPINNING_11,
-                ..NOTHING
+                services: spinning_11(),
+                ..nothing()
             },
         ),
         Example(
@@ -147,7 +140,7 @@ pub fn examples(rt: &HostRuntime) -> anyhow::Result<bool> {
             },
             Components {
                 hour: 25,
-                ..NOTHING
+                ..nothing()
             },
         ),
     ];

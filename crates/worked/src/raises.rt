@@ -5,10 +5,7 @@ use raised::Raised;
 use register::CardRow;
 
 fn answered(res: Result<(), Fault>) -> Verdict {
-    match res {
-        Ok(()) => GRANTED,
-        Err(fault) => fault.into(),
-    }
+    res.map_or_else(Verdict::from, |()| GRANTED)
 }
 
 pub fn examples(rt: &HostRuntime) -> anyhow::Result<bool> {

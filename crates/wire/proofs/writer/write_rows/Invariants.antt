@@ -1,6 +1,6 @@
 use Rattle.std.proofs.Common.{◌≡◌, drop}
 use Rattle.wire.specs.Writing.{rows_put}
-use Rattle.wire.proofs.counted.write_rows.Given as goal
+use Rattle.wire.proofs.writer.write_rows.Given as goal
 
 -- what is left to write, from here, gives what the whole writing gives
 abbrev pub invariant-loop-row : goal.invariant-loop-row
