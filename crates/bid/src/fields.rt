@@ -43,15 +43,24 @@ impl Field for Step {
     ghost puts = { step_puts };
 
     fn read(reader: &mut Reader) -> Result<Step, Fault> {
-        Ok(Step {
-            end: reader.quantity()?,
-            price: reader.price()?,
-        })
+        let mut ahead = *reader;
+        let step = Step {
+            end: ahead.quantity()?,
+            price: ahead.price()?,
+        };
+        *reader = ahead;
+        Ok(step)
     }
 
     fn write(&self, writer: &mut Writer) -> Result<(), Fault> {
-        writer.long(self.end)?;
-        writer.signed(self.price)
+        let mut ahead = Writer {
+            out: &mut *writer.out,
+            at: writer.at,
+        };
+        ahead.long(self.end)?;
+        ahead.signed(self.price)?;
+        writer.at = ahead.at;
+        Ok(())
     }
 }
 
@@ -101,15 +110,24 @@ impl Field for Service {
     ghost puts = { service_puts };
 
     fn read(reader: &mut Reader) -> Result<Service, Fault> {
-        Ok(Service {
-            quantity: service_quantity(reader)?,
-            price: reader.price()?,
-        })
+        let mut ahead = *reader;
+        let service = Service {
+            quantity: service_quantity(&mut ahead)?,
+            price: ahead.price()?,
+        };
+        *reader = ahead;
+        Ok(service)
     }
 
     fn write(&self, writer: &mut Writer) -> Result<(), Fault> {
-        writer.long(self.quantity)?;
-        writer.signed(self.price)
+        let mut ahead = Writer {
+            out: &mut *writer.out,
+            at: writer.at,
+        };
+        ahead.long(self.quantity)?;
+        ahead.signed(self.price)?;
+        writer.at = ahead.at;
+        Ok(())
     }
 }
 
@@ -135,15 +153,24 @@ impl Field for StartUpPair {
     ghost puts = { start_up_pair_puts };
 
     fn read(reader: &mut Reader) -> Result<StartUpPair, Fault> {
-        Ok(StartUpPair {
-            down_time: reader.down_time()?,
-            cost: reader.cost()?,
-        })
+        let mut ahead = *reader;
+        let pair = StartUpPair {
+            down_time: ahead.down_time()?,
+            cost: ahead.cost()?,
+        };
+        *reader = ahead;
+        Ok(pair)
     }
 
     fn write(&self, writer: &mut Writer) -> Result<(), Fault> {
-        writer.word(self.down_time)?;
-        writer.long(self.cost)
+        let mut ahead = Writer {
+            out: &mut *writer.out,
+            at: writer.at,
+        };
+        ahead.word(self.down_time)?;
+        ahead.long(self.cost)?;
+        writer.at = ahead.at;
+        Ok(())
     }
 }
 
@@ -193,15 +220,24 @@ impl Field for RampPair {
     ghost puts = { ramp_pair_puts };
 
     fn read(reader: &mut Reader) -> Result<RampPair, Fault> {
-        Ok(RampPair {
-            level: reader.quantity()?,
-            rate: reader.rate()?,
-        })
+        let mut ahead = *reader;
+        let pair = RampPair {
+            level: ahead.quantity()?,
+            rate: ahead.rate()?,
+        };
+        *reader = ahead;
+        Ok(pair)
     }
 
     fn write(&self, writer: &mut Writer) -> Result<(), Fault> {
-        writer.long(self.level)?;
-        writer.long(self.rate)
+        let mut ahead = Writer {
+            out: &mut *writer.out,
+            at: writer.at,
+        };
+        ahead.long(self.level)?;
+        ahead.long(self.rate)?;
+        writer.at = ahead.at;
+        Ok(())
     }
 }
 
@@ -251,15 +287,24 @@ impl Field for Curve {
     ghost puts = { curve_puts };
 
     fn read(reader: &mut Reader) -> Result<Curve, Fault> {
-        Ok(Curve {
-            start: reader.quantity()?,
-            steps: Counted::read(reader)?,
-        })
+        let mut ahead = *reader;
+        let curve = Curve {
+            start: ahead.quantity()?,
+            steps: Counted::read(&mut ahead)?,
+        };
+        *reader = ahead;
+        Ok(curve)
     }
 
     fn write(&self, writer: &mut Writer) -> Result<(), Fault> {
-        writer.long(self.start)?;
-        self.steps.write(writer)
+        let mut ahead = Writer {
+            out: &mut *writer.out,
+            at: writer.at,
+        };
+        ahead.long(self.start)?;
+        self.steps.write(&mut ahead)?;
+        writer.at = ahead.at;
+        Ok(())
     }
 }
 

@@ -15,12 +15,12 @@ cond-turn : (b : Bool) (f : Fault) (p q : Passed) → cond b (Err f) (in_turn p 
 cond-turn true f p q = refl
 cond-turn false f p q = refl
 
-first_append : (xs ys : List Check) → first_broken (xs ++ ys) ≡ in_turn (first_broken xs) (first_broken ys)
+pub first_append : (xs ys : List Check) → first_broken (xs ++ ys) ≡ in_turn (first_broken xs) (first_broken ys)
 first_append [] ys = refl
 first_append (x ∷ xs) ys = ap (cond x.1 (Err x.0)) (first_append xs ys) ∙ cond-turn x.1 x.0 (first_broken xs) (first_broken ys)
 
 -- a group that fails answers
-first_failed : (xs ys : List Check) (f : Fault) → Err f ≡ first_broken xs → Err f ≡ first_broken (xs ++ ys)
+pub first_failed : (xs ys : List Check) (f : Fault) → Err f ≡ first_broken xs → Err f ≡ first_broken (xs ++ ys)
 first_failed xs ys f e = ap (λ p. in_turn p (first_broken ys)) e ∙ sym (first_append xs ys)
 
 services_passed_lem : (d : Day) (c : Card) (s : Services) → first_broken (services_checks d c s) ≡ services_passed d c s

@@ -8,4 +8,4 @@ mod steps;
 mod terms;
 
 pub use registered::Registered;
-pub use terms::{free, need};
+pub use terms::{base, free, need};

@@ -4,14 +4,21 @@ ghost use Rattle.checks.specs.Terms.{ceiling as ceiling_of, extension_price, fre
 
 use crate::registered::Registered;
 use bid::{Components, Service, Services};
-use register::Regulation;
+use register::{Card, Regulation};
+
+// Where energy begins: the self-schedule, or else PMin.
+pub fn base(card: &Card, bid: &Components) -> u32
+    ensures { result ≡ base_of card.now bid.now }
+{
+    bid.self_schedule.unwrap_or(card.pmin)
+}
 
 impl Registered<'_> {
-    // Where energy begins: the self-schedule, or else PMin.
+    // Where energy begins; the day counts for nothing.
     pub fn base(&self, bid: &Components) -> u32
         ensures { result ≡ base_of self.now.card.now bid.now }
     {
-        bid.self_schedule.unwrap_or(self.card.pmin)
+        base(self.card, bid)
     }
 
     // The larger of the soft cap and the smaller of level and hard cap.

@@ -29,7 +29,7 @@ price_last p (s ∷ t ∷ ss) h =
     price_last s.price (t ∷ ss) (omega arith) ∙ ap (λ k. (get_or (s ∷ t ∷ ss) k blank_step).price) e
 
 -- where steps end is where the last one does
-end_last : (e : ℕ) (ss : List Step) → 0 < length ss → (get_or ss (length ss - 1) blank_step).end ≡ end_of e ss
+pub end_last : (e : ℕ) (ss : List Step) → 0 < length ss → (get_or ss (length ss - 1) blank_step).end ≡ end_of e ss
 end_last e [] h = absurd (omega arith)
 end_last e (s ∷ []) h = refl
 end_last e (s ∷ t ∷ ss) h =
@@ -110,17 +110,17 @@ module _ (c : Counted Step 10) (counted : is_count 10 c.count ≡ true) (tidy : 
   refuses price target h full =
       sym (ap steps_made (cond-false (le_z price (price_of price ss)) _ _ (ap (le_z price) (price_is price) ∙ h) ∙ cond-false (ltb (length ss) 10) _ _ (le-ltb (length ss) 10 (subst (λ k. 10 ≤ k) count_is full))))
 
-  extended_lengthens : (price : ℤ) (target : ℕ) → le_z price (get_or c.rows (c.count - 1) blank_step).price ≡ true
+  pub extended_lengthens : (price : ℤ) (target : ℕ) → le_z price (get_or c.rows (c.count - 1) blank_step).price ≡ true
       → ◌≡◌ {A = Result (Counted Step 10) Fault} (Ok (record { count = c.count; rows = set c.rows (c.count - 1) (step target (get_or c.rows (c.count - 1) blank_step).price) })) (steps_made (extended_steps target price (entries c)))
   unfolding ss
   extended_lengthens = lengthens
 
-  extended_grows : (price : ℤ) (target : ℕ) → le_z price (get_or c.rows (c.count - 1) blank_step).price ≡ false → c.count < 10
+  pub extended_grows : (price : ℤ) (target : ℕ) → le_z price (get_or c.rows (c.count - 1) blank_step).price ≡ false → c.count < 10
       → ◌≡◌ {A = Result (Counted Step 10) Fault} (Ok (record { count = c.count + 1; rows = set c.rows c.count (step target price) })) (steps_made (extended_steps target price (entries c)))
   unfolding ss
   extended_grows = grows
 
-  extended_refuses : (price : ℤ) (target : ℕ) → le_z price (get_or c.rows (c.count - 1) blank_step).price ≡ false → 10 ≤ c.count
+  pub extended_refuses : (price : ℤ) (target : ℕ) → le_z price (get_or c.rows (c.count - 1) blank_step).price ≡ false → 10 ≤ c.count
       → ◌≡◌ {A = Result (Counted Step 10) Fault} (Err (Rule EleventhStep 0)) (steps_made (extended_steps target price (entries c)))
   unfolding ss
   extended_refuses = refuses

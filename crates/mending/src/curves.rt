@@ -71,7 +71,7 @@ impl Extension {
     }
 }
 
-// The curve of a bid with each step's price brought under the ceiling: as bids keep them.
+// The curve of a bid with each step's price brought under the ceiling: its count is right, and zeros stand behind it.
 #[derive(Clone, Copy)]
 pub(crate) struct Capped {
     curve: Option<Curve>,

@@ -1,7 +1,7 @@
 -- Raised levels over a register: what is kept, what is looked up, and what a list of raises comes to. Assumes nothing.
-use Rattle.std.proofs.Common.{◌≡◌, ℕ, true, false, cond, eqb, List, [], ◌∷◌, ℤ, is_some, is_ok, Some, None, Ok, Err, Option, Result, sym, refl, ap, ◌∙◌, inl, inr, arith}
+use Rattle.std.proofs.Common.{◌≡◌, ℕ, true, false, cond, eqb, ◌⊎◌, List, [], ◌∷◌, ℤ, is_some, is_ok, Some, None, Ok, Err, Option, Result, sym, refl, ap, ◌∙◌, inl, inr, arith}
 use lib.Signed.{lt_z, le_z}
-use Rattle.std.proofs.lemmas.Bool.{cases_Bool, cond-true, cond-false, and_from, both_ways, eqb-true}
+use Rattle.std.proofs.lemmas.Bool.{cases_Bool, cond-true, cond-false, and_from, both_ways, eqb-true, and_left, and_right}
 use Rattle.std.proofs.lemmas.Int.{ints}
 use Rattle.faults.specs.declared.Fault.{Fault}
 use Rattle.faults.specs.declared.Fault.TheVariants.{Register}
@@ -15,6 +15,12 @@ use Rattle.raised.specs.Runs.{levels_after_all, granted_of, later, last_for, Rai
 use Rattle.register.specs.RowKeeps.{some_same, none_some}
 use Rattle.raised.specs.RaisedKeeps.{level_kept}
 use Rattle.raised.proofs.LevelLists.{level_put}
+
+-- looking up finds nothing where nothing is held below
+pub look_none : (lv : Option ℤ) (o : Option Card) (before : Card) → is_some o ≡ false → (false ≡ is_some (raised_card lv o)) × (card_or before o ≡ card_or before (raised_card lv o))
+look_none None o before h = (sym h, refl)
+look_none (Some l) None before h = (refl, refl)
+look_none (Some l) (Some c) before h = absurd (both_ways true h refl)
 
 module _ (m : Meaning) where
   -- a raise that is granted is of a held resource, and may be asked for
@@ -129,6 +135,9 @@ module _ (m : Meaning) (xs : List RaisedLevel) (n : ℕ) (l : ℤ) where
     of_some None h = absurd (both_ways false refl h)
     of_some (Some c) h = refl
 
+    pub raise_not_allowed : is_some (m.cards n) ≡ true → may_raise (card_or before (m.cards n)).level l ≡ false → raise_answer m xs n l ≡ Err (Register RaiseNotAllowed 0)
+    raise_not_allowed h t = of_price ∙ of_some (m.cards n) h ∙ cond-false (may_raise (card_or before (m.cards n)).level l) _ _ t
+
     pub raise_put : is_some (m.cards n) ≡ true → may_raise (card_or before (m.cards n)).level l ≡ true → raise_answer m xs n l ≡ put_answer xs n
     raise_put h t = of_price ∙ of_some (m.cards n) h ∙ cond-true (may_raise (card_or before (m.cards n)).level l) _ _ t
 
@@ -141,6 +150,14 @@ held_price m n before k h = price_in n before (m.cards n) (k.cards n) h
 
 not_lower : (a b : ℤ) → lt_z b a ≡ false → le_z a b ≡ true
 not_lower a b h = grind (arith, ints)
+
+lower : (a b : ℤ) → lt_z b a ≡ true → le_z a b ≡ false
+lower a b h = grind (arith, ints)
+
+-- below the level, or above its threshold
+pub may_not : (b l : ℤ) → (lt_z l b ≡ true) ⊎ (lt_z (threshold b) l ≡ true) → may_raise b l ≡ false
+may_not b l (inl h) = and_left (le_z b l) (le_z l (threshold b)) (lower b l h)
+may_not b l (inr h) = and_right (le_z b l) (le_z l (threshold b)) (lower l (threshold b) h)
 
 -- from the level up to its threshold
 pub may : (b l : ℤ) → lt_z l b ≡ false → lt_z (threshold b) l ≡ false → may_raise b l ≡ true

@@ -26,15 +26,24 @@ impl Field for StartUpLimit {
     ghost puts = { λ v. limit_puts v };
 
     fn read(reader: &mut Reader) -> Result<StartUpLimit, Fault> {
-        Ok(StartUpLimit {
-            down_time: reader.down_time()?,
-            highest: reader.cost()?,
-        })
+        let mut ahead = *reader;
+        let pair = StartUpLimit {
+            down_time: ahead.down_time()?,
+            highest: ahead.cost()?,
+        };
+        *reader = ahead;
+        Ok(pair)
     }
 
     fn write(&self, writer: &mut Writer) -> Result<(), Fault> {
-        writer.word(self.down_time)?;
-        writer.long(self.highest)
+        let mut ahead = Writer {
+            out: &mut *writer.out,
+            at: writer.at,
+        };
+        ahead.word(self.down_time)?;
+        ahead.long(self.highest)?;
+        writer.at = ahead.at;
+        Ok(())
     }
 }
 
@@ -84,17 +93,26 @@ impl Field for RampLimits {
     ghost puts = { λ v. limits_puts v };
 
     fn read(reader: &mut Reader) -> Result<RampLimits, Fault> {
-        Ok(RampLimits {
-            level: reader.quantity()?,
-            lowest: reader.rate()?,
-            highest: reader.rate()?,
-        })
+        let mut ahead = *reader;
+        let row = RampLimits {
+            level: ahead.quantity()?,
+            lowest: ahead.rate()?,
+            highest: ahead.rate()?,
+        };
+        *reader = ahead;
+        Ok(row)
     }
 
     fn write(&self, writer: &mut Writer) -> Result<(), Fault> {
-        writer.long(self.level)?;
-        writer.long(self.lowest)?;
-        writer.long(self.highest)
+        let mut ahead = Writer {
+            out: &mut *writer.out,
+            at: writer.at,
+        };
+        ahead.long(self.level)?;
+        ahead.long(self.lowest)?;
+        ahead.long(self.highest)?;
+        writer.at = ahead.at;
+        Ok(())
     }
 }
 

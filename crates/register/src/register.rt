@@ -8,12 +8,14 @@ pub trait Register {
     ghost meaning: { Self → Meaning };
 
     fn day(&self) -> Day
-        ensures { result ≡ (meaning self.now).day };
+        ensures value { result ≡ (meaning self.now).day }
+        ensures keeps { Keeps (meaning self.now) };
 
     // Whether the resource is held; its card is filled in if so, and else not written.
     fn look(&self, resource: u16, card: &mut Card) -> bool
         ensures answer { result ≡ is_some ((meaning self.now).cards resource) }
-        ensures filled { card.new ≡ card_or card.old ((meaning self.now).cards resource) };
+        ensures filled { card.new ≡ card_or card.old ((meaning self.now).cards resource) }
+        ensures keeps { Keeps (meaning self.now) };
 
     // Every kind of register owes that its meaning keeps what registers keep.
     ghost keeps: { (r : Self) → Keeps (meaning r) };

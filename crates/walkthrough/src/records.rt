@@ -1,6 +1,6 @@
 // A bid becomes a record, is read back, and damaged copies are denied.
 use crate::{damage, desk};
-use bid::Bid;
+use bid::{Bid, LONGEST_RECORD};
 use faults::Fault;
 use words::{Hex, tell_bid};
 
@@ -24,17 +24,18 @@ fn tell_record(rt: &HostRuntime, record: &[u8]) -> anyhow::Result<()> {
 }
 
 fn tell_written(rt: &HostRuntime, bid: &Bid) -> anyhow::Result<()> {
-    let mut record = vec![in rt.alloc(); 0; bid.length()]?;
-    if let Err(fault) = bid.write(&mut record) {
-        return tell_denial(rt, fault);
-    }
+    let mut memory = [0; LONGEST_RECORD];
+    let record = match bid.write(&mut memory) {
+        Ok(length) => &mut memory[..length],
+        Err(fault) => return tell_denial(rt, fault),
+    };
     println!(rt; "Its record, as it is filed:")?;
-    tell_record(rt, &record)?;
+    tell_record(rt, record)?;
     println!(rt; "The same record with its last byte lost on the way:")?;
-    tell_record(rt, damage::cut(&record))?;
+    tell_record(rt, damage::cut(record))?;
     println!(rt; "The same record with a bit set that no field has:")?;
-    damage::unknown_bit(&mut record);
-    tell_record(rt, &record)
+    damage::unknown_bit(record);
+    tell_record(rt, record)
 }
 
 pub fn tell(rt: &HostRuntime) -> anyhow::Result<()> {

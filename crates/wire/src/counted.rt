@@ -81,8 +81,11 @@ impl<T: Row, const N: usize> Field for Counted<T, N> {
     ghost puts = { puts_counted T.Field.put T.Field.encoded T.Field.puts };
 
     fn read(reader: &mut Reader) -> Result<Counted<T, N>, Fault> {
-        let count = reader.count(N)?;
-        read_rows(count, reader)
+        let mut ahead = *reader;
+        let count = ahead.count(N)?;
+        let counted = read_rows(count, &mut ahead)?;
+        *reader = ahead;
+        Ok(counted)
     }
 
     fn write(&self, writer: &mut Writer) -> Result<(), Fault> {

@@ -1,5 +1,5 @@
 // A field of a format and counted rows of it: each kind is read, written and measured by its own functions, under one law.
-ghost use Rattle.std.specs.Prelude.{◌≡◌, ℕ, ◌+◌, ◌*◌, ◌≤◌, Bool, true, List, [], length};
+ghost use Rattle.std.specs.Prelude.{◌≡◌, ℕ, ◌+◌, ◌*◌, ◌≤◌, Bool, true, List, [], length, OnErr};
 ghost use Rattle.wire.specs.Laws.{Lawful, Puts};
 ghost use Rattle.wire.specs.Reading.{Read};
 ghost use Rattle.wire.specs.Reads.{Reads};
@@ -29,10 +29,12 @@ pub trait Field: Copy {
     ghost longest: { ℕ };
 
     fn read(reader: &mut Reader) -> Result<Self, Fault>
-        ensures { Reads parsed reader.old result reader.new };
+        ensures value { Reads parsed reader.old result reader.new }
+        ensures stays { OnErr result (reader.new.at ≡ reader.old.at) };
 
     fn write(&self, writer: &mut Writer) -> Result<(), Fault>
-        ensures { Writes (put self.now) writer.old result writer.new };
+        ensures value { Writes (put self.now) writer.old result writer.new }
+        ensures stays { OnErr result (writer.new.at ≡ writer.old.at) };
 
     ghost lawful: { Lawful parsed encoded held longest };
 

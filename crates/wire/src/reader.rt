@@ -1,5 +1,5 @@
 // Reading one field after another: the value that stands there, or the fault that does.
-ghost use Rattle.std.specs.Prelude.{◌≡◌, ◌≤◌, min, cond, Ok, Err};
+ghost use Rattle.std.specs.Prelude.{◌≡◌, ◌≤◌, min, cond, Ok, Err, OnErr};
 ghost use Rattle.wire.specs.Reading.{place_of, fault_at, is_quantity, is_price, is_map, array_at, byte_at, word_at, long_at, quantity_at, rate_at, price_at, cost_at, down_time_at, count_at, map_at};
 ghost use Rattle.wire.specs.Reads.{Reads, reader_at};
 ghost use Rattle.wire.specs.Rows.{optional_at, OptionalUndone};
@@ -48,18 +48,7 @@ fn is_map(last: u32, map: u16) -> bool
     last >= 15 || map >> (last + 1) == 0
 }
 
-// A value that stood at a place, refused there unless it keeps its range.
-fn ranged<T: Copy>(fault: RecordFault, at: usize, value: T, kept: bool) -> Result<T, Fault>
-    ensures { result ≡ cond kept (Ok value) (Err (fault_at fault at)) }
-{
-    if kept {
-        Ok(value)
-    } else {
-        Err(fault_at(fault, at))
-    }
-}
-
-// Bytes, and the place from which they are read on.
+// Bytes, and the place from which they are read on; what is refused leaves it where it stood.
 #[derive(Clone, Copy)]
 pub struct Reader<'a> {
     pub bytes: &'a [u8],
@@ -67,10 +56,31 @@ pub struct Reader<'a> {
 }
 
 impl<'a> Reader<'a> {
+    // A value that stood at a place, refused there unless it keeps its range.
+    fn ranged<T: Copy>(
+        &mut self,
+        fault: RecordFault,
+        at: usize,
+        value: T,
+        kept: bool,
+    ) -> Result<T, Fault>
+        ensures value { result ≡ cond kept (Ok value) (Err (fault_at fault at)) }
+        ensures place { self.new.at ≡ cond kept self.old.at at }
+        ensures bytes { self.new.bytes ≡ self.old.bytes }
+    {
+        if kept {
+            Ok(value)
+        } else {
+            self.at = at;
+            Err(fault_at(fault, at))
+        }
+    }
+
     // The next N bytes.
     fn array<const N: usize>(&mut self) -> Result<[u8; N], Fault>
         requires { 1 ≤ N }
-        ensures { Reads (array_at N) self.old result self.new }
+        ensures value { Reads (array_at N) self.old result self.new }
+        ensures stays { OnErr result (self.new.at ≡ self.old.at) }
     {
         let length = self.bytes.len();
         if length.saturating_sub(self.at) < N {
@@ -84,84 +94,95 @@ impl<'a> Reader<'a> {
     }
 
     pub fn byte(&mut self) -> Result<u8, Fault>
-        ensures { Reads byte_at self.old result self.new }
+        ensures value { Reads byte_at self.old result self.new }
+        ensures stays { OnErr result (self.new.at ≡ self.old.at) }
     {
         Ok(u8::from_be_bytes(self.array()?))
     }
 
     pub fn word(&mut self) -> Result<u16, Fault>
-        ensures { Reads word_at self.old result self.new }
+        ensures value { Reads word_at self.old result self.new }
+        ensures stays { OnErr result (self.new.at ≡ self.old.at) }
     {
         Ok(u16::from_be_bytes(self.array()?))
     }
 
     fn long(&mut self) -> Result<u32, Fault>
-        ensures { Reads long_at self.old result self.new }
+        ensures value { Reads long_at self.old result self.new }
+        ensures stays { OnErr result (self.new.at ≡ self.old.at) }
     {
         Ok(u32::from_be_bytes(self.array()?))
     }
 
     // Hundredths of a MW, at most 10,000,000.
     pub fn quantity(&mut self) -> Result<u32, Fault>
-        ensures { Reads quantity_at self.old result self.new }
+        ensures value { Reads quantity_at self.old result self.new }
+        ensures stays { OnErr result (self.new.at ≡ self.old.at) }
     {
         let at = self.at;
         let value = self.long()?;
-        ranged(RecordFault::OutOfRange, at, value, is_quantity(value))
+        self.ranged(RecordFault::OutOfRange, at, value, is_quantity(value))
     }
 
     // Hundredths of a MW in a minute, in the range of quantities.
     pub fn rate(&mut self) -> Result<u32, Fault>
-        ensures { Reads rate_at self.old result self.new }
+        ensures value { Reads rate_at self.old result self.new }
+        ensures stays { OnErr result (self.new.at ≡ self.old.at) }
     {
         self.quantity()
     }
 
     // Cents, from -10,000,000 to 10,000,000.
     pub fn price(&mut self) -> Result<i32, Fault>
-        ensures { Reads price_at self.old result self.new }
+        ensures value { Reads price_at self.old result self.new }
+        ensures stays { OnErr result (self.new.at ≡ self.old.at) }
     {
         let at = self.at;
         let value = self.long()?.cast_signed();
-        ranged(RecordFault::OutOfRange, at, value, is_price(value))
+        self.ranged(RecordFault::OutOfRange, at, value, is_price(value))
     }
 
     // Cents, any number of 32 bits.
     pub fn cost(&mut self) -> Result<u32, Fault>
-        ensures { Reads cost_at self.old result self.new }
+        ensures value { Reads cost_at self.old result self.new }
+        ensures stays { OnErr result (self.new.at ≡ self.old.at) }
     {
         self.long()
     }
 
     // Minutes, any number of 16 bits.
     pub fn down_time(&mut self) -> Result<u16, Fault>
-        ensures { Reads down_time_at self.old result self.new }
+        ensures value { Reads down_time_at self.old result self.new }
+        ensures stays { OnErr result (self.new.at ≡ self.old.at) }
     {
         self.word()
     }
 
     // A count of at least 1 and at most `most`.
     pub fn count(&mut self, most: usize) -> Result<u8, Fault>
-        ensures { Reads (count_at most) self.old result self.new }
+        ensures value { Reads (count_at most) self.old result self.new }
+        ensures stays { OnErr result (self.new.at ≡ self.old.at) }
     {
         let at = self.at;
         let count = self.byte()?;
         let kept = 1 <= count && count as usize <= most;
-        ranged(RecordFault::BadCount, at, count, kept)
+        self.ranged(RecordFault::BadCount, at, count, kept)
     }
 
     // A bit map of 16 bits, in which no bit may stand above the last one that has a meaning.
     pub fn map(&mut self, last: u32) -> Result<u16, Fault>
-        ensures { Reads (map_at last) self.old result self.new }
+        ensures value { Reads (map_at last) self.old result self.new }
+        ensures stays { OnErr result (self.new.at ≡ self.old.at) }
     {
         let at = self.at;
         let map = self.word()?;
-        ranged(RecordFault::UnknownBit, at, map, is_map(last, map))
+        self.ranged(RecordFault::UnknownBit, at, map, is_map(last, map))
     }
 
     // A field that stands where its bit does.
     pub fn optional<T: Field>(&mut self, present: bool) -> Result<Option<T>, Fault>
         ensures value { Reads (optional_at present T.Field.parsed) self.old result self.new }
+        ensures stays { OnErr result (self.new.at ≡ self.old.at) }
         ensures lawful { OptionalUndone present T.Field.parsed T.Field.encoded T.Field.held }
     {
         if !present {

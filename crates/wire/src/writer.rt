@@ -1,5 +1,5 @@
-// Writing one field after another into lent memory; what does not fit is refused, with nothing of it written.
-ghost use Rattle.std.specs.Prelude.{◌≡◌};
+// Writing one field after another into lent memory; a number or bytes that do not fit are refused, with nothing of them written.
+ghost use Rattle.std.specs.Prelude.{◌≡◌, OnErr};
 ghost use Rattle.wire.specs.Bytes.{byte_bytes, word_bytes, long_bytes, signed_bytes};
 ghost use Rattle.wire.specs.Rows.{counted_put, optional_put};
 ghost use Rattle.wire.specs.Writing.{put_at, rows_put};
@@ -18,7 +18,7 @@ fn write_rows<T: Field>(rows: &[T], writer: &mut Writer) -> Result<(), Fault>
     Ok(())
 }
 
-// Lent memory, and the place from which it is written on.
+// Lent memory, and the place from which it is written on; what is refused leaves the place where it was.
 #[derive(Drop)]
 pub struct Writer<'a> {
     pub out: &'a mut [u8],
@@ -36,7 +36,8 @@ impl<'a> Writer<'a> {
     }
 
     pub fn bytes(&mut self, bytes: &[u8]) -> Result<(), Fault>
-        ensures { Writes (put_at bytes.now) self.old result self.new }
+        ensures value { Writes (put_at bytes.now) self.old result self.new }
+        ensures stays { OnErr result (self.new.at ≡ self.old.at) }
     {
         let out = &mut *self.out;
         let at = self.at;
@@ -50,25 +51,29 @@ impl<'a> Writer<'a> {
     }
 
     pub fn byte(&mut self, value: u8) -> Result<(), Fault>
-        ensures { Writes (put_at (byte_bytes value)) self.old result self.new }
+        ensures value { Writes (put_at (byte_bytes value)) self.old result self.new }
+        ensures stays { OnErr result (self.new.at ≡ self.old.at) }
     {
         self.bytes(&[value])
     }
 
     pub fn word(&mut self, value: u16) -> Result<(), Fault>
-        ensures { Writes (put_at (word_bytes value)) self.old result self.new }
+        ensures value { Writes (put_at (word_bytes value)) self.old result self.new }
+        ensures stays { OnErr result (self.new.at ≡ self.old.at) }
     {
         self.bytes(&value.to_be_bytes())
     }
 
     pub fn long(&mut self, value: u32) -> Result<(), Fault>
-        ensures { Writes (put_at (long_bytes value)) self.old result self.new }
+        ensures value { Writes (put_at (long_bytes value)) self.old result self.new }
+        ensures stays { OnErr result (self.new.at ≡ self.old.at) }
     {
         self.bytes(&value.to_be_bytes())
     }
 
     pub fn signed(&mut self, value: i32) -> Result<(), Fault>
-        ensures { Writes (put_at (signed_bytes value)) self.old result self.new }
+        ensures value { Writes (put_at (signed_bytes value)) self.old result self.new }
+        ensures stays { OnErr result (self.new.at ≡ self.old.at) }
     {
         self.bytes(&value.to_be_bytes())
     }
@@ -78,15 +83,23 @@ impl<'a> Writer<'a> {
         &mut self,
         counted: &Counted<T, N>,
     ) -> Result<(), Fault>
-        ensures { Writes (counted_put T.Field.put counted.now) self.old result self.new }
+        ensures value { Writes (counted_put T.Field.put counted.now) self.old result self.new }
+        ensures stays { OnErr result (self.new.at ≡ self.old.at) }
     {
-        self.byte(counted.count)?;
-        write_rows(counted.standing(), self)
+        let mut ahead = Writer {
+            out: &mut *self.out,
+            at: self.at,
+        };
+        ahead.byte(counted.count)?;
+        write_rows(counted.standing(), &mut ahead)?;
+        self.at = ahead.at;
+        Ok(())
     }
 
     // A field where there is one, else nothing.
     pub fn optional<T: Field>(&mut self, value: &Option<T>) -> Result<(), Fault>
-        ensures { Writes (optional_put T.Field.put value.now) self.old result self.new }
+        ensures value { Writes (optional_put T.Field.put value.now) self.old result self.new }
+        ensures stays { OnErr result (self.new.at ≡ self.old.at) }
     {
         match value {
             Some(value) => value.write(self),

@@ -66,11 +66,11 @@ impl fmt::Display for Hex<'_> {
     ghost output = { λ h. Some (hex_text h.0.now) };
 
     fn fmt<W: fmt::Write>(&self, f: &mut fmt::Formatter<W>) -> fmt::Result {
-        if let [first, others @ ..] = self.0 {
-            write!(f, "{}", HexByte(*first))?;
-            for byte in others {
-                write!(f, " {}", HexByte(*byte))?;
+        for (i, byte) in self.0.iter().enumerate() {
+            if i > 0 {
+                f.write_str(" ")?;
             }
+            HexByte(*byte).fmt(f)?;
         }
         Ok(())
     }

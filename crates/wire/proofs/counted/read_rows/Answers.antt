@@ -11,8 +11,8 @@ returns-in_err-row g c =
     let p = err_from_is_err_and c.from_residual.result c.from_residual.ensures.1 in
     let i = c.loop-row.row-index in
     let lt : i < c.args.count = omega (arith, c.loop-row.invariant.0) in (
-      sym c.loop-row.invariant.2 ∙ row_fails _ _ _ c.args.count i lt (take i c.loop-row.row-items) _ _ _ c.in_err-row.ensures.0 ∙ sym (ap (λ r. reader_at r c.read.new.reader.at) (p.1 ∙ ap Err p.2)),
-      c.read.ensures.1 ∙ c.loop-row.invariant.1,
+      sym c.loop-row.invariant.2 ∙ row_fails _ _ _ c.args.count i lt (take i c.loop-row.row-items) _ _ _ c.in_err-row.ensures.value.0 ∙ sym (ap (λ r. reader_at r c.read.new.reader.at) (p.1 ∙ ap Err p.2)),
+      c.read.ensures.value.1 ∙ c.loop-row.invariant.1,
     )
 
 pub loop-row-preserved : goal.loop-row-preserved
@@ -23,10 +23,10 @@ loop-row-preserved g c =
     let inside : i < length items = omega (arith, c.loop-row.invariant.0) in
     let rest = packed_at g.T.Row.blank g.T.Field.parsed g.row.N (c.args.count - (i + 1)) in (
       length-set _ _ _ ∙ c.loop-row.invariant.0,
-      c.read.ensures.1 ∙ c.loop-row.invariant.1,
-      ap (λ b. rest (take (i + 1) (set items i c.in_ok-row.field-0)) b.now c.read.new.reader.at) c.read.ensures.1
+      c.read.ensures.value.1 ∙ c.loop-row.invariant.1,
+      ap (λ b. rest (take (i + 1) (set items i c.in_ok-row.field-0)) b.now c.read.new.reader.at) c.read.ensures.value.1
           ∙ ap (λ l. rest l c.loop-row.reader.bytes.now c.read.new.reader.at) (take_more_set items i c.in_ok-row.field-0 inside)
-          ∙ sym (row_more _ _ _ c.args.count i lt (take i items) _ _ _ _ c.in_ok-row.ensures.0) ∙ c.loop-row.invariant.2,
+          ∙ sym (row_more _ _ _ c.args.count i lt (take i items) _ _ _ _ c.in_ok-row.ensures.value.0) ∙ c.loop-row.invariant.2,
     )
 
 pub returns : goal.returns
