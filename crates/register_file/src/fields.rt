@@ -52,6 +52,7 @@ fn read_head(reader: &mut Reader) -> Result<Head, Fault>
 fn read_bits(map: u16, part: Part, reader: &mut Reader) -> Result<Option<u32>, Fault>
     ensures { Reads (bits_at map (part_bit part)) reader.old result reader.new }
 {
+    reader.tell_bytes();
     if has(map, part) {
         Ok(Some(reader.cost()?))
     } else {
@@ -113,6 +114,7 @@ fn rows_or_none<T: Row, const N: usize>(
 ) -> Result<Counted<T, N>, Fault>
     ensures { Reads (rows_or_none T.Row.blank T.Field.parsed N map (part_bit part)) reader.old result reader.new }
 {
+    reader.tell_bytes();
     match has(map, part) {
         true => Counted::read(reader),
         false => Ok(Counted::of(&[])),

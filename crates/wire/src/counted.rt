@@ -57,6 +57,7 @@ fn read_rows<T: Row, const N: usize>(count: u8, reader: &mut Reader) -> Result<C
     requires { count ≤ N }
     ensures { Reads (packed_at T.Row.blank T.Field.parsed N count []) reader.old result reader.new }
 {
+    reader.tell_bytes();
     let mut rows = [T::blank(); N];
     for row in &mut rows[..count as usize] {
         *row = T::read(reader)?;

@@ -1,5 +1,6 @@
 // Reading one field after another: the value that stands there, or the fault that does.
 ghost use Rattle.std.specs.Prelude.{◌≡◌, ◌≤◌, min, cond, Ok, Err, OnErr};
+ghost use Rattle.wire.specs.Bytes.{Bytes};
 ghost use Rattle.wire.specs.Reading.{place_of, fault_at, is_quantity, is_price, is_map, array_at, byte_at, word_at, long_at, quantity_at, rate_at, price_at, cost_at, down_time_at, count_at, map_at};
 ghost use Rattle.wire.specs.Reads.{Reads, reader_at};
 ghost use Rattle.wire.specs.Rows.{optional_at, OptionalUndone};
@@ -48,6 +49,11 @@ fn is_map(last: u32, map: u16) -> bool
     last >= 15 || map >> (last + 1) == 0
 }
 
+// Says of lent memory what its type says, where contracts can cite it: its numbers are bytes. Nothing is done.
+pub(crate) fn are_bytes(memory: &[u8])
+    ensures { Bytes memory.now }
+{}
+
 // Bytes, and the place from which they are read on; what is refused leaves it where it stood.
 #[derive(Clone, Copy)]
 pub struct Reader<'a> {
@@ -76,12 +82,20 @@ impl<'a> Reader<'a> {
         }
     }
 
+    // Tells whoever is handed a reader that what it reads are bytes; nothing is done.
+    pub fn tell_bytes(&self)
+        ensures { Bytes self.now.bytes.now }
+    {
+        are_bytes(self.bytes);
+    }
+
     // The next N bytes.
     fn array<const N: usize>(&mut self) -> Result<[u8; N], Fault>
         requires { 1 ≤ N }
         ensures value { Reads (array_at N) self.old result self.new }
         ensures stays { OnErr result (self.new.at ≡ self.old.at) }
     {
+        self.tell_bytes();
         let length = self.bytes.len();
         if length.saturating_sub(self.at) < N {
             return Err(fault_at(RecordFault::CutShort, length));
@@ -185,6 +199,7 @@ impl<'a> Reader<'a> {
         ensures stays { OnErr result (self.new.at ≡ self.old.at) }
         ensures lawful { OptionalUndone present T.Field.parsed T.Field.encoded T.Field.held }
     {
+        self.tell_bytes();
         if !present {
             return Ok(None);
         }

@@ -1,17 +1,19 @@
 // Writing one field after another into lent memory; a number or bytes that do not fit are refused, with nothing of them written.
 ghost use Rattle.std.specs.Prelude.{◌≡◌, OnErr};
-ghost use Rattle.wire.specs.Bytes.{byte_bytes, word_bytes, long_bytes, signed_bytes};
+ghost use Rattle.wire.specs.Bytes.{Bytes, byte_bytes, word_bytes, long_bytes, signed_bytes};
 ghost use Rattle.wire.specs.Rows.{counted_put, optional_put};
 ghost use Rattle.wire.specs.Writing.{put_at, rows_put};
 ghost use Rattle.wire.specs.Writes.{Writes};
 
 use crate::counted::Counted;
 use crate::field::Field;
+use crate::reader::are_bytes;
 use faults::{Fault, WindowFault};
 
 fn write_rows<T: Field>(rows: &[T], writer: &mut Writer) -> Result<(), Fault>
     ensures { Writes (rows_put T.Field.put rows.now) writer.old result writer.new }
 {
+    writer.tell_bytes();
     for row in rows {
         row.write(writer)?;
     }
@@ -35,10 +37,18 @@ impl<'a> Writer<'a> {
         Writer { out, at: 0 }
     }
 
+    // Tells whoever is handed a writer that what its memory holds are bytes; nothing is done.
+    pub fn tell_bytes(&self)
+        ensures { Bytes self.now.out.now }
+    {
+        are_bytes(self.out);
+    }
+
     pub fn bytes(&mut self, bytes: &[u8]) -> Result<(), Fault>
         ensures value { Writes (put_at bytes.now) self.old result self.new }
         ensures stays { OnErr result (self.new.at ≡ self.old.at) }
     {
+        self.tell_bytes();
         let out = &mut *self.out;
         let at = self.at;
         if at > out.len() || out.len() - at < bytes.len() {
@@ -101,6 +111,7 @@ impl<'a> Writer<'a> {
         ensures value { Writes (optional_put T.Field.put value.now) self.old result self.new }
         ensures stays { OnErr result (self.new.at ≡ self.old.at) }
     {
+        self.tell_bytes();
         match value {
             Some(value) => value.write(self),
             None => Ok(()),

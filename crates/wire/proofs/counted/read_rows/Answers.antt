@@ -13,6 +13,7 @@ returns-in_err-row g c =
     let lt : i < c.args.count = omega (arith, c.loop-row.invariant.0) in (
       sym c.loop-row.invariant.2 ∙ row_fails _ _ _ c.args.count i lt (take i c.loop-row.row-items) _ _ _ c.in_err-row.ensures.value.0 ∙ sym (ap (λ r. reader_at r c.read.new.reader.at) (p.1 ∙ ap Err p.2)),
       c.read.ensures.value.1 ∙ c.loop-row.invariant.1,
+      c.tell_bytes.ensures,
     )
 
 pub loop-row-preserved : goal.loop-row-preserved
@@ -39,4 +40,5 @@ returns g c =
       sym c.loop-row.invariant.2 ∙ rows_done _ _ _ (take i items) _ done _ _
           ∙ ap (λ l. Ok (l, c.loop-row.reader.at)) (sym (ap (λ b. record { count = c.args.count; rows = items ++ drop c.args.count (replicate g.row.N b) }) c.blank-rows.ensures ∙ packed_front g.T.Row.blank g.row.N items c.args.count long ∙ ap (packed g.T.Row.blank g.row.N) (sym all))),
       c.loop-row.invariant.1,
+      c.tell_bytes.ensures,
     )
