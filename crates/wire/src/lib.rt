@@ -2,6 +2,7 @@
 #![tactic(auto)]
 
 ghost use Rattle.std.specs.Prelude.{◌≡◌};
+ghost use Rattle.wire.specs.Bytes.{Bytes};
 ghost use Rattle.wire.specs.Maps.{stands};
 
 pub mod counted;
@@ -22,3 +23,8 @@ pub fn stands_in(map: u16, bit: u32) -> bool
 {
     bit < 16 && map >> bit & 1 == 1
 }
+
+// Tells proofs what the type of lent memory says: that its numbers are bytes; does nothing when run.
+fn tell_bytes(memory: &[u8])
+    ensures { Bytes memory.now }
+{}

@@ -6,6 +6,7 @@ ghost use Rattle.wire.specs.Reads.{Reads, reader_at};
 ghost use Rattle.wire.specs.Rows.{optional_at, OptionalUndone};
 
 use crate::field::Field;
+use crate::tell_bytes;
 use faults::{Fault, RecordFault};
 
 pub const MAX_QUANTITY: u32 = 10_000_000;
@@ -49,11 +50,6 @@ fn is_map(last: u32, map: u16) -> bool
     last >= 15 || map >> (last + 1) == 0
 }
 
-// Says of lent memory what its type says, where contracts can cite it: its numbers are bytes. Nothing is done.
-pub(crate) fn are_bytes(memory: &[u8])
-    ensures { Bytes memory.now }
-{}
-
 // Bytes, and the place from which they are read on; what is refused leaves it where it stood.
 #[derive(Clone, Copy)]
 pub struct Reader<'a> {
@@ -82,11 +78,11 @@ impl<'a> Reader<'a> {
         }
     }
 
-    // Tells whoever is handed a reader that what it reads are bytes; nothing is done.
+    // Tells proofs that the numbers behind the reader are bytes; does nothing when run.
     pub fn tell_bytes(&self)
         ensures { Bytes self.now.bytes.now }
     {
-        are_bytes(self.bytes);
+        tell_bytes(self.bytes);
     }
 
     // The next N bytes.

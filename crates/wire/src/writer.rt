@@ -7,7 +7,7 @@ ghost use Rattle.wire.specs.Writes.{Writes};
 
 use crate::counted::Counted;
 use crate::field::Field;
-use crate::reader::are_bytes;
+use crate::tell_bytes;
 use faults::{Fault, WindowFault};
 
 fn write_rows<T: Field>(rows: &[T], writer: &mut Writer) -> Result<(), Fault>
@@ -37,11 +37,11 @@ impl<'a> Writer<'a> {
         Writer { out, at: 0 }
     }
 
-    // Tells whoever is handed a writer that what its memory holds are bytes; nothing is done.
+    // Tells proofs that the numbers in the writer's memory are bytes; does nothing when run.
     pub fn tell_bytes(&self)
         ensures { Bytes self.now.out.now }
     {
-        are_bytes(self.out);
+        tell_bytes(self.out);
     }
 
     pub fn bytes(&mut self, bytes: &[u8]) -> Result<(), Fault>
