@@ -10,6 +10,6 @@ abbrev pub reader_at : {A : Type 0} → Result A Fault → ℕ → Read A
 reader_at (Ok v) next = Ok (v, next)
 reader_at (Err f) next = Err f
 
--- it answers what stands at the reader's place, and moves on behind it, over the same numbers, each a byte
+-- it answers what stands at the reader's place, and after a value the reader stands behind it; its numbers are the same, each a byte
 abbrev pub Reads : {A : Type 0} → (List ℕ → ℕ → Read A) → Reader → Result A Fault → Reader → Type 0
 Reads parsed old result new = (parsed old.bytes.now old.at ≡ reader_at result new.at) × (new.bytes ≡ old.bytes) × Bytes old.bytes.now

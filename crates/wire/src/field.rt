@@ -28,12 +28,12 @@ pub trait Field: Copy {
     // the most bytes that such a value takes
     ghost longest: { ℕ };
 
-    // Where an impl reads nothing, it calls `tell_bytes`: `Reads` says that the reader's numbers are bytes.
+    // That the reader's numbers are bytes, as `Reads` says, an impl has from any call that reads with it, else from `tell_bytes`.
     fn read(reader: &mut Reader) -> Result<Self, Fault>
         ensures value { Reads parsed reader.old result reader.new }
         ensures stays { OnErr result (reader.new.at ≡ reader.old.at) };
 
-    // Where an impl writes nothing, it calls `tell_bytes`: `Writes` says that the memory's numbers are bytes.
+    // That the memory's numbers are bytes, as `Writes` says, an impl has from any call that writes to it, else from `tell_bytes`.
     fn write(&self, writer: &mut Writer) -> Result<(), Fault>
         ensures value { Writes (put self.now) writer.old result writer.new }
         ensures stays { OnErr result (writer.new.at ≡ writer.old.at) };
